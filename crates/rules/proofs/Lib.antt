@@ -1,3 +1,9 @@
 pub mod Laws
 pub mod Licence
+pub mod Places
+pub mod Derivation
+pub mod Section4
+pub mod Always
+pub mod Formed
+pub mod Reached
 pub mod Worked

@@ -8,14 +8,14 @@ use Prim.Native.Nat.{ℕ, _<_}
 use Rattle.rules.specs.Sizes.{slots}
 use Rattle.rules.specs.State.{State, Places, MAILBOX, within, slot, room, nothing, whose, Holds, Derived, Fits, Section4, Formed, derivedFrom}
 use Rattle.rules.specs.Turn.{Name, DELETE, REVOKE, named, answer, next}
-use Rattle.rules.specs.Image.{Entry, Image, imageOf, sourceless, defines, given, boot, some, formRefusal, refusalOf}
+use Rattle.rules.specs.Image.{Bytes, Entry, Image, imageOf, sourceless, defines, given, boot, some, formRefusal, refusalOf}
 use Rattle.rules.specs.Flow.{Triple, CouldHold, Reader}
 use Rattle.rules.specs.declared.Capability.{Capability}
 use Rattle.rules.specs.declared.Operation.{Operation}
 
 -- a state that is reached from the bytes of an accepted image by some sequence of turns
 pub data Reached (b : List ℕ) : State → Type 0 where
-  booted : refusalOf b ≡ 0 → Reached b (boot (imageOf b))
+  booted : Bytes b → refusalOf b ≡ 0 → Reached b (boot (imageOf b))
   turned : {s : State} → Reached b s → (o : Operation) → Reached b (next s o)
 
 -- section 4 always holds, and so do the sizes and ranges of sections 1 and 2
