@@ -1,4 +1,5 @@
 pub mod Laws
+pub mod Fixed
 pub mod Licence
 pub mod Places
 pub mod Derivation
@@ -6,4 +7,6 @@ pub mod Section4
 pub mod Always
 pub mod Formed
 pub mod Reached
+pub mod Revoke
+pub mod Confinement
 pub mod Worked

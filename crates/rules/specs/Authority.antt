@@ -100,7 +100,7 @@ pub record Covered (i : Image) (d : ℕ) (c : Capability) : Type 0 where
 
 -- confinement, document 03 section 1; and of a capability under way: every reader of the mailbox could hold it
 pub record Confined (i : Image) (s : State) : Type 0 where
-  pub inSlots : (d x : ℕ) → x < slots → Holds (s .capability) (slot d x) → Covered i d (s .capability (slot d x))
+  pub inSlots : (d x : ℕ) → d < s .domains → x < slots → Holds (s .capability) (slot d x) → Covered i d (s .capability (slot d x))
   pub underWay : (m d : ℕ) → Reader i MAILBOX m d → Holds (s .capability) (room m) → Covered i d (s .capability (room m))
 
 abbrev pub Confinement : Type 0
