@@ -9,4 +9,5 @@ pub mod Formed
 pub mod Reached
 pub mod Revoke
 pub mod Confinement
+pub mod History
 pub mod Worked
