@@ -1,3 +1,4 @@
 pub mod Laws
 pub mod Licence
 pub mod Worked
+pub mod Given
