@@ -2,3 +2,4 @@ pub mod Laws
 pub mod Licence
 pub mod Worked
 pub mod Given
+pub mod Chain
