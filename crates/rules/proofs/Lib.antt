@@ -3,3 +3,4 @@ pub mod Licence
 pub mod Worked
 pub mod Given
 pub mod Chain
+pub mod Bootable
