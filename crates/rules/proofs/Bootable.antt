@@ -8,16 +8,20 @@ use Prim.Native.Nat.{ℕ, zero, suc, _+_, _≤_, _<_}
 use native.Mathlib.Omega.{arith}
 use lib.Dec.{eqb}
 use lib.ListN.{length, getD, length-take, length-drop}
-use borrow.Author.Tests.{eqb-true, eqb-false, eq-eqb}
+use borrow.Author.Tests.{eqb-true, eqb-false, eq-eqb, ne-eqb}
 use Rattle.rules.specs.Sizes.{allSlots, places, badgeMost}
-use Rattle.rules.specs.State.{Places, slot, room, Holds, Source, comesTo, Fits, Section4, WellFormed, Formed}
+use Rattle.rules.specs.State.{Places, slot, room, Holds, Source, nothing, comesTo, Fits, Section4, WellFormed, Formed}
 use Rattle.rules.specs.Turn.{_then_else_}
 use Rattle.rules.specs.Image.{Entry, entryBytes, sizeD, sizeT, sizeF, padded, entriesAt, lengthFor, tableOf, entryAt, entriesFrom, imageOf, placeOf, sourceless, sourceOf, capabilityOf, given, boot, all, some, defines, fitting, sourceRight, formRefusal, refusalOf}
 use Rattle.rules.specs.Authority.{Bootable, AcceptedExactly, RefusedExactly}
 use Rattle.rules.specs.declared.Capability.{Capability}
-use Rattle.rules.proofs.Laws.{both, either, decided-by, passes}
+use Rattle.rules.proofs.Laws.{both, passes}
 use Rattle.rules.proofs.Given.{Entered, all-at, all-of, some-at, given-either, given-from, given-nothing, given-here, FormRight, form-right}
 use Rattle.rules.proofs.Chain.{return-source, comes-no-return, ends}
+
+or-else : (a b : Bool) → (a ≡ false → b ≡ true) → (a || b) ≡ true
+or-else true b h = refl
+or-else false b h = h refl
 
 -- ---- a capability against its source
 
@@ -32,17 +36,14 @@ fitting-fits c p h =
       kind = eqb-true _ _ kind;
       object = eqb-true _ _ object;
       rights = rights;
-      badge = λ n. ⊎-elim (λ (t : eqb (p .badge) 0 ≡ true). absurd (n (eqb-true _ _ t))) (λ (t : eqb (c .badge) (p .badge) ≡ true). eqb-true _ _ t) (either _ _ badge);
+      badge = λ n. eqb-true _ _ (rw (ne-eqb (p .badge) 0 n) at badge);
     }
 
 -- where the document's relation holds, the test passes
 pub fits-fitting : (c p : Capability) → Fits c p → fitting c p ≡ true
 unfolding fitting
-fits-fitting c p f = rw (eq-eqb _ _ (f .kind), eq-eqb _ _ (f .object), f .rights) (go (decided-by (eqb (p .badge) 0)))
-  where
-    go : (eqb (p .badge) 0 ≡ true) ⊎ (eqb (p .badge) 0 ≡ false) → (eqb (p .badge) 0 || eqb (c .badge) (p .badge)) ≡ true
-    go (inl t) = rw t
-    go (inr t) = rw (t, eq-eqb _ _ (f .badge (eqb-false _ _ t)))
+fits-fitting c p f =
+    rw (eq-eqb _ _ (f .kind), eq-eqb _ _ (f .object), f .rights) (or-else _ _ (λ n. eq-eqb _ _ (f .badge (eqb-false _ _ n))))
 
 -- ---- refusal 26
 
@@ -63,13 +64,10 @@ defines-place e f t =
     omega (arith, eqb-true)
 
 -- an entry with a source p: the source's domain and slot name p
-sourced : (e : Entry) (p : ℕ) → sourceOf e ≡ suc p → (sourceless e ≡ false) × (sourcePlace e ≡ p)
+sourced : (e : Entry) (p : ℕ) (t : Bool) → sourceless e ≡ t → sourceOf e ≡ suc p → (sourceless e ≡ false) × (sourcePlace e ≡ p)
 unfolding sourceOf
-sourced e p h = go (decided-by (sourceless e))
-  where
-    go : (sourceless e ≡ true) ⊎ (sourceless e ≡ false) → (sourceless e ≡ false) × (sourcePlace e ≡ p)
-    go (inl t) = absurd (omega (arith, rw t at h))
-    go (inr n) = (n, omega (arith, rw n at h))
+sourced e p true t h = absurd (omega (arith, rw t at h))
+sourced e p false n h = (n, omega (arith, rw n at h))
 
 -- what is right about an entry with a source
 record SourceRight (es : List Entry) (e : Entry) : Type 0 where
@@ -88,23 +86,17 @@ source-right es e h n =
 -- what they make up
 right-source : (es : List Entry) (e : Entry) → (sourceless e ≡ false → SourceRight es e) → sourceRight es e ≡ true
 unfolding sourceRight
-right-source es e h = go (decided-by (sourceless e))
-  where
-    go : (sourceless e ≡ true) ⊎ (sourceless e ≡ false) → sourceRight es e ≡ true
-    go (inl t) = rw t
-    go (inr n) = let r = h n in rw (n, r .defined, fits-fitting _ _ (r .fits), r .ended)
+right-source es e h = or-else _ _ (λ n. let r = h n in rw (r .defined, fits-fitting _ _ (r .fits), r .ended))
 
 -- a capability with a source p stands for an entry that names p
-source-entry : (es : List Entry) (p q : ℕ) → Source (given es) p q
+source-entry : (es : List Entry) (p q : ℕ) → (given es q ≡ nothing) ⊎ Entered es q → Source (given es) p q
     → (e : Entry) × List·Memᴰ e es × (given es q ≡ capabilityOf e) × (sourceless e ≡ false) × (sourcePlace e ≡ p)
 unfolding capabilityOf
-source-entry es p q s = ⊎-elim (λ n. absurd (omega (arith, ap (λ c. c .source) n))) (λ r. from r) (given-either es q)
-  where
-    from : Entered es q → (e : Entry) × List·Memᴰ e es × (given es q ≡ capabilityOf e) × (sourceless e ≡ false) × (sourcePlace e ≡ p)
-    from r =
-        let (e, m, k, c) = r in
-        let (n, l) = sourced e p (sym (ap (λ c. c .source) c) ∙ s) in
-        (e, m, c, n, l)
+source-entry es p q (inl n) s = absurd (omega (arith, ap (λ c. c .source) n))
+source-entry es p q (inr r) s =
+    let (e, m, k, c) = r in
+    let (n, l) = sourced e p _ refl (sym (ap (λ c. c .source) c) ∙ s) in
+    (e, m, c, n, l)
 
 -- the places as an image's entries give them
 abbrev pub atBoot : List ℕ → Places
@@ -141,7 +133,7 @@ module _ (b : List ℕ) (form : FormRight b) where
       parts : (p q : ℕ) → Source (atBoot b) p q
           → Holds (atBoot b) p × Fits (atBoot b q) (atBoot b p) × (comesTo places (atBoot b) 0 (atBoot b q .source) ≡ true)
       parts p q s =
-          let (e, m, c, n, l) = source-entry _ p q s in
+          let (e, m, c, n, l) = source-entry _ p q (given-either _ q) s in
           let r = source-right _ e (all-at (sourceRight (imageOf b .entries)) m h) n in
           (rw l at (defined-held e (r .defined)), rw c (rw l at (r .fits)), rw c (r .ended))
 

@@ -33,12 +33,9 @@ module _ {A : Type 0} (f : A → Bool) where
   pub some-at : (xs : List A) → some f xs ≡ true → (x : A) × List·Memᴰ x xs × (f x ≡ true)
   unfolding some
   some-at [] h = absurd (false≢true h)
-  some-at (y ∷ ys) h = go (either (f y) _ h) (some-at ys)
-    where
-      go : (f y ≡ true) ⊎ (some f ys ≡ true) → (some f ys ≡ true → (x : A) × List·Memᴰ x ys × (f x ≡ true))
-          → (x : A) × List·Memᴰ x (y ∷ ys) × (f x ≡ true)
-      go (inl t) next = (y, List·Memᴰ·head refl, t)
-      go (inr t) next = let (x, m, u) = next t in (x, List·Memᴰ·tail m, u)
+  some-at (y ∷ ys) h =
+      ⊎-elim (λ (t : f y ≡ true). (y, List·Memᴰ·head refl, t))
+      (λ (t : some f ys ≡ true). let (x, m, u) = some-at ys t in (x, List·Memᴰ·tail m, u)) (either _ _ h)
 
   -- a test that passes at one of them passes at some
   pub some-of : {x : A} {xs : List A} → List·Memᴰ x xs → f x ≡ true → some f xs ≡ true
