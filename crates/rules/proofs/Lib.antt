@@ -11,3 +11,6 @@ pub mod Revoke
 pub mod Confinement
 pub mod History
 pub mod Worked
+pub mod Given
+pub mod Chain
+pub mod Bootable
