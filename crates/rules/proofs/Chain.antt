@@ -12,6 +12,7 @@ use Rattle.rules.specs.Sizes.{places}
 use Rattle.rules.specs.State.{Places, Holds, Source, Derived, direct, further, comesTo, derivedFrom}
 use Rattle.rules.specs.Authority.{TestIsDerived}
 use Rattle.rules.proofs.Laws.{either, decided-by, not-both}
+use Rattle.rules.proofs.Derivation.{chain}
 
 -- ---- the pigeonhole
 
@@ -58,22 +59,17 @@ pigeon (suc n) f h = go (seek (suc n) (f (suc n)) f) (pigeon n)
 -- ---- what is derived
 
 module _ {at : Places} where
-  -- what is derived from something derived is derived
-  pub derived-trans : {p q r : ℕ} → Derived at p q → Derived at q r → Derived at p r
-  derived-trans d (direct s) = further d s
-  derived-trans d (further e s) = further (derived-trans d e) s
-
   -- a place from which following sources comes back has a source, which is such a place too
   pub return-source : {p q : ℕ} → Derived at p q → q ≡ p → (r : ℕ) × Source at r q × Derived at r r
   return-source {p} (direct s) e = (p, s, direct (rw e at s))
-  return-source (further {q = r} d s) e = (r, s, derived-trans (direct (rw e at s)) d)
+  return-source (further {q = r} d s) e = (r, s, chain (direct (rw e at s)) d)
 
   -- each is the source of the one before: the later ones are what the earlier are derived from
   sources-along : (g : ℕ → ℕ) (n : ℕ) → ((i : ℕ) → i < n → Source at (g (suc i)) (g i)) → (i : ℕ) → i < n → Derived at (g n) (g i)
   sources-along g zero h i l = absurd (omega arith)
   sources-along g (suc n) h i l =
       ⊎-elim (λ (k : i ≡ n). direct (rw k (h n (omega arith))))
-      (λ (k : i < n). derived-trans (direct (h n (omega arith))) (sources-along g n (λ j m. h j (omega arith)) i k))
+      (λ (k : i < n). chain (direct (h n (omega arith))) (sources-along g n (λ j m. h j (omega arith)) i k))
       (eq-or-lt-of-le (le-of-suc-le-suc l))
 
 -- ---- the test

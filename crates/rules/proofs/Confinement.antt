@@ -19,7 +19,7 @@ use Rattle.rules.proofs.Places.{resourced, each-dropped, each-pruned}
 use Rattle.rules.proofs.Licence.{Has, Owns, Free, Licence, nothing-done, stores, rings, hushes, puts, drops, prunes, posts, sends, takes, gets, licensed}
 use Rattle.rules.proofs.Fixed.{apply-fixed}
 use Rattle.rules.proofs.Always.{derived-made, copied-made, slot-room}
-use Rattle.rules.proofs.Reached.{whose-low}
+use Rattle.rules.proofs.Formed.{whose-low}
 
 -- what fits a covered capability is covered
 covered-fits : {i : Image} {d : ℕ} {c from : Capability} → Covered i d from → Fits c from → Covered i d c

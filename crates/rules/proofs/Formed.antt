@@ -10,7 +10,7 @@ use lib.ListN.{length}
 use lib.Bits.{bitAnd, bitOr, and-le-r, or-lt}
 use borrow.Author.Tests.{eqb-true, eqb-false}
 use Rattle.rules.specs.Sizes.{domainsMost, slots, allSlots, mailboxes, places, badgeMost}
-use Rattle.rules.specs.State.{State, Places, MAILBOX, WRITE, GRANT, within, slot, room, nothing, noMessage, Holds, Source, objects, Fits, WellFormed, Formed}
+use Rattle.rules.specs.State.{State, Places, MAILBOX, WRITE, GRANT, within, slot, room, nothing, noMessage, whose, Holds, Source, objects, Fits, WellFormed, Formed}
 use Rattle.rules.specs.Turn.{held, set, dropped, pruned, changed, apply}
 use Rattle.rules.specs.declared.Capability.{Capability}
 use Rattle.rules.specs.declared.Message.{Message}
@@ -20,6 +20,11 @@ use Rattle.rules.proofs.Places.{same?, resourced, each-dropped, each-pr
 use Rattle.rules.proofs.Licence.{Has, Owns, Free, Licence, nothing-done, stores, rings, hushes, puts, drops, prunes, posts, sends, takes, gets}
 use Rattle.rules.proofs.Section4.{dropped-alike}
 use Rattle.rules.proofs.Always.{Made, derived-made, copied-made, slot-room}
+
+-- the domain whose turn it is is one of the state's
+pub whose-low : {s : State} → Formed s → whose s < s .domains
+unfolding whose
+whose-low {s} f = f .turns (s .position) (f .position)
 
 -- what a state of D domains and F frames asks of place q, which holds c
 pub record PlaceFormed (domains frames q : ℕ) (c : Capability) : Type 0 where

@@ -6,11 +6,11 @@ pub mod Derivation
 pub mod Section4
 pub mod Always
 pub mod Formed
-pub mod Reached
+pub mod Chain
+pub mod Given
+pub mod Bootable
 pub mod Revoke
 pub mod Confinement
+pub mod Reached
 pub mod History
 pub mod Worked
-pub mod Given
-pub mod Chain
-pub mod Bootable
