@@ -29,7 +29,7 @@ covered-fits {c = c} {from = from} v f =
       could = v .could;
       kind = v .kind ∙ sym (f .kind);
       object = v .object ∙ sym (f .object);
-      rights = within-trans (c .rights) (from .rights) (v .triple .rights) (f .rights) (v .rights)
+      rights = within-trans (c .rights) (from .rights) (v .triple .rights) (f .rights) (v .rights);
     }
 
 -- the triple that covers a capability is for its kind and object, with every right that the capability has
@@ -57,7 +57,7 @@ module _ (i : Image) {s : State} (f : Formed s) (k : Confined i s) (d : ℕ) (h 
   at-each q =
       record {
         inSlot = λ a x l g e. subst (λ p. (s .capability p .kind ≡ 0 → ⊥) → Covered i a (s .capability p)) (sym e) (k .inSlots a x l g);
-        inRoom = λ m a w e. subst (λ p. (s .capability p .kind ≡ 0 → ⊥) → Covered i a (s .capability p)) (sym e) (k .underWay m a w)
+        inRoom = λ m a w e. subst (λ p. (s .capability p .kind ≡ 0 → ⊥) → Covered i a (s .capability p)) (sym e) (k .underWay m a w);
       }
 
   at-nothing : (q : ℕ) → At q nothing
@@ -67,7 +67,7 @@ module _ (i : Image) {s : State} (f : Formed s) (k : Confined i s) (d : ℕ) (h 
   at-fits v g =
       record {
         inSlot = λ a x l j e n. covered-fits (v .inSlot a x l j e (λ z. n (g .kind ∙ z))) g;
-        inRoom = λ m a w e n. covered-fits (v .inRoom m a w e (λ z. n (g .kind ∙ z))) g
+        inRoom = λ m a w e n. covered-fits (v .inRoom m a w e (λ z. n (g .kind ∙ z))) g;
       }
 
   -- a slot of d: what d could hold
@@ -75,14 +75,14 @@ module _ (i : Image) {s : State} (f : Formed s) (k : Confined i s) (d : ℕ) (h 
   at-slot t {c} g v =
       record {
         inSlot = λ a x l j e n. subst (λ b. Covered i b c) (let w : d ≡ a = omega arith in w) v;
-        inRoom = λ m a w e n. absurd (slot-room d t m (low h) g e)
+        inRoom = λ m a w e n. absurd (slot-room d t m (low h) g e);
       }
 
   at-room : (m : ℕ) {c : Capability} → ((a : ℕ) → Reader i MAILBOX m a → Covered i a c) → At (room m) c
   at-room m {c} v =
       record {
         inSlot = λ a x l j e n. absurd (slot-room a x m (low l) j (sym e));
-        inRoom = λ n a w e g. v a (subst (λ b. Reader i MAILBOX b a) (let y : n ≡ m = omega arith in y) w)
+        inRoom = λ n a w e g. v a (subst (λ b. Reader i MAILBOX b a) (let y : n ≡ m = omega arith in y) w);
       }
 
   each-kept : (e : Effect) → Licence s d e → (q : ℕ) → At q (apply s e .capability q)
@@ -93,35 +93,35 @@ module _ (i : Image) {s : State} (f : Formed s) (k : Confined i s) (d : ℕ) (h 
   each-kept e (hushes o) = at-each
   each-kept e (puts {x} {t} {b} r o g l) =
       set-each At (s .capability) (slot d t) _ at-each
-        (at-slot t (g .inRange) (covered-fits (k .inSlots d x h (o .inRange) (o .there)) (derived-made _ _ r b l .fits)))
+      (at-slot t (g .inRange) (covered-fits (k .inSlots d x h (o .inRange) (o .there)) (derived-made _ _ r b l .fits)))
   each-kept e (drops o) =
       each-dropped At (s .capability) at-each _ at-nothing
-        (λ q c. at-fits (at-each q)
-          (record { kind = refl; object = refl; rights = within-refl (s .capability q .rights); badge = λ n. refl }))
+      (λ q c. at-fits (at-each q)
+      (record { kind = refl; object = refl; rights = within-refl (s .capability q .rights); badge = λ n. refl }))
   each-kept e (prunes o) = each-pruned At (s .capability) at-each _ at-nothing
   each-kept e (posts {x} o z) = set-each At (s .capability) _ _ at-each (at-nothing _)
   each-kept e (sends {x} {c} o g a z) =
       set-each At (s .capability) _ _ at-each
-        (at-room _ (λ b w.
-          let v = k .inSlots d x h (o .has .inRange) (o .has .there) in
-          let y = covered-fits (k .inSlots d c h (a .inRange) (a .there)) (copied-made (held s d c) (slot d c) .fits) in
-          record {
-            triple = y .triple;
-            could = passed (v .could) (covered-for v (o .kindIs) (o .can)) (covered-for v (o .kindIs) g) (w .could) (w .fit) (y .could);
-            kind = y .kind;
-            object = y .object;
-            rights = y .rights
-          }))
+      (at-room _ (λ b w.
+      let v = k .inSlots d x h (o .has .inRange) (o .has .there) in
+      let y = covered-fits (k .inSlots d c h (a .inRange) (a .there)) (copied-made (held s d c) (slot d c) .fits) in
+      record {
+        triple = y .triple;
+        could = passed (v .could) (covered-for v (o .kindIs) (o .can)) (covered-for v (o .kindIs) g) (w .could) (w .fit) (y .could);
+        kind = y .kind;
+        object = y .object;
+        rights = y .rights;
+      }))
   each-kept e (takes {x} o) = set-each At (s .capability) _ _ at-each (at-nothing _)
   each-kept e (gets {x} {t} o u g) =
       set-each At _ (slot d t) _ (set-each At (s .capability) _ _ at-each (at-nothing _))
-        (at-slot t (g .inRange) (k .underWay (held s d x .object) d (could o) u))
+      (at-slot t (g .inRange) (k .underWay (held s d x .object) d (could o) u))
 
   pub confined-kept : (e : Effect) → Licence s d e → Confined i (apply s e)
   confined-kept e l =
       record {
         inSlots = λ a x g j n. each-kept e l (slot a x) .inSlot a x (subst (λ m. a < m) (apply-fixed s e .0 .domains) g) j refl n;
-        underWay = λ m a w n. each-kept e l (room m) .inRoom m a w refl n
+        underWay = λ m a w n. each-kept e l (room m) .inRoom m a w refl n;
       }
 
 -- a turn keeps confinement

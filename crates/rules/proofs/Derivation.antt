@@ -62,8 +62,10 @@ module _ (at : Places) (p : ℕ) where
     where
       away : q ≡ p → ⊥
       away z = absurd (let f : 0 ≡ suc x = ap (λ c. c .source) (sym (dropped-here at p)) ∙ (ap (λ y. dropped at p y .source) (sym z) ∙ e) in omega arith)
+
       child : Source at p q → ((x ≡ p → ⊥) × Source at x q) ⊎ (Source at p q × Source at x p)
       child f = inr (f, ap (λ c. c .source) (sym (dropped-child at p q away f)) ∙ e)
+
       other : (Source at p q → ⊥) → ((x ≡ p → ⊥) × Source at x q) ⊎ (Source at p q × Source at x p)
       other f =
           let w : Source at x q = ap (λ c. c .source) (sym (dropped-other at p q away f)) ∙ e in
@@ -95,10 +97,11 @@ module _ (at : Places) (p : ℕ) where
     both-ways {r} h (direct {q} e) =
         (λ g. direct (keeps h g e), λ z c g f. direct (hands g f (subst (λ y. Source at r y) z e)))
     both-ways {r} h (further {q = x} {r = q} u e) =
-        let w = both-ways h u in
-        (λ g. ⊎-elim (λ z. w .1 z q g (subst (λ y. Source at y q) z e)) (λ n. further (w .0 n) (keeps n g e)) (same? x p),
-        λ z c g f. ⊎-elim (λ y. absurd (noReturn (direct (subst (λ a. Source at p a) z (subst (λ a. Source at a q) y e)))))
-          (λ n. further (w .0 n) (hands g f (subst (λ a. Source at x a) z e))) (same? x p))
+        let w = both-ways h u in (
+          λ g. ⊎-elim (λ z. w .1 z q g (subst (λ y. Source at y q) z e)) (λ n. further (w .0 n) (keeps n g e)) (same? x p),
+          λ z c g f. ⊎-elim (λ y. absurd (noReturn (direct (subst (λ a. Source at p a) z (subst (λ a. Source at a q) y e)))))
+              (λ n. further (w .0 n) (hands g f (subst (λ a. Source at x a) z e))) (same? x p),
+        )
 
     -- between places other than p, what was derived is derived
     pub dropped-on : {r q : ℕ} → (r ≡ p → ⊥) → (q ≡ p → ⊥) → Derived at r q → Derived (dropped at p) r q
@@ -111,7 +114,7 @@ module _ (at to : Places) (p : ℕ) (gone : (q : ℕ) → Derived at p q → to 
   pub pruned-source : {x q : ℕ} → Source to x q → (Derived at p q → ⊥) × Source at x q
   pruned-source {x} {q} e =
       ⊎-elim (λ u. absurd (let f : 0 ≡ suc x = ap (λ c. c .source) (sym (gone q u)) ∙ e in omega arith))
-        (λ n. (n, ap (λ c. c .source) (sym (kept q n)) ∙ e)) (either q)
+      (λ n. (n, ap (λ c. c .source) (sym (kept q n)) ∙ e)) (either q)
 
   -- what is derived after the pruning was derived before it
   pub pruned-back : {r q : ℕ} → Derived to r q → Derived at r q

@@ -53,7 +53,7 @@ fits-formed {frames} {c} {d} w f b s =
       grant = λ g. f .kind ∙ w .grant (within-trans GRANT (c .rights) (d .rights) g (f .rights));
       object = subst (λ k. c .object < objects frames k) (sym (f .kind)) (subst (λ o. o < objects frames (d .kind)) (sym (f .object)) (w .object));
       badge = b;
-      source = s
+      source = s;
     }
 
 -- a well-formed capability is there
@@ -105,7 +105,7 @@ module _ {s : State} (f : Formed s) where
         bell = ring;
         full = λ m. mail m .full;
         emptied = λ m. mail m .emptied;
-        badge = λ m. mail m .badge
+        badge = λ m. mail m .badge;
       }
 
   -- only places change, and no room is filled
@@ -113,7 +113,7 @@ module _ {s : State} (f : Formed s) where
       → Formed (changed s at (s .word) (s .bell) (s .message))
   formed-places at each rooms =
       formed-changed at (s .word) (s .bell) (s .message) each (f .bell)
-        (λ m. record { full = f .full m; emptied = λ e. let w = f .emptied m e in (w .0, rooms m (w .1)); badge = f .badge m })
+      (λ m. record { full = f .full m; emptied = λ e. let w = f .emptied m e in (w .0, rooms m (w .1)); badge = f .badge m })
 
   -- one mailbox and its room change, and perhaps a slot
   formed-mail : (m : ℕ) (g : Message) (at : Places) → ((q : ℕ) → At q (at q)) → MailFormed g (at (room m))
@@ -121,12 +121,12 @@ module _ {s : State} (f : Formed s) where
       → Formed (changed s at (s .word) (s .bell) (set (s .message) m g))
   formed-mail m g at each here away =
       formed-changed at (s .word) (s .bell) (set (s .message) m g) each (f .bell)
-        (λ n. ⊎-elim
-          (λ z. subst (λ y. MailFormed (set (s .message) m g y) (at (room y))) (sym z)
-            (subst (λ x. MailFormed x (at (room m))) (sym (set-here (s .message) m g)) here))
-          (λ h. subst (λ x. MailFormed x (at (room n))) (sym (set-there (s .message) m g n h))
-            (subst (λ c. MailFormed (s .message n) c) (sym (away n h)) (mail-each n)))
-          (same? n m))
+      (λ n. ⊎-elim
+      (λ z. subst (λ y. MailFormed (set (s .message) m g y) (at (room y))) (sym z)
+      (subst (λ x. MailFormed x (at (room m))) (sym (set-here (s .message) m g)) here))
+      (λ h. subst (λ x. MailFormed x (at (room n))) (sym (set-there (s .message) m g n h))
+      (subst (λ c. MailFormed (s .message n) c) (sym (away n h)) (mail-each n)))
+      (same? n m))
 
   -- the object of an owned mailbox is one of the mailboxes
   pub owned-box : {d x r : ℕ} → Owns s d x MAILBOX r → held s d x .object < mailboxes
@@ -149,12 +149,12 @@ module _ {s : State} (f : Formed s) where
       let c = at-each q in
       record {
         capability = λ n.
-          let w = c .capability n in
-          fits-formed w (record { kind = refl; object = refl; rights = within-refl (s .capability q .rights); badge = λ m. refl }) (w .badge)
+            let w = c .capability n in
+            fits-formed w (record { kind = refl; object = refl; rights = within-refl (s .capability q .rights); badge = λ m. refl }) (w .badge)
             (f .capability p h .source);
         empty = λ z. absurd (let y : 0 ≡ suc p = ap (λ x. x .source) (sym (c .empty z)) ∙ e in omega arith);
         slotsOnly = c .slotsOnly;
-        placesOnly = c .placesOnly
+        placesOnly = c .placesOnly;
       }
 
   mail-none : {c : Capability} → c .kind ≡ 0 → MailFormed noMessage c
@@ -174,24 +174,24 @@ module _ {s : State} (f : Formed s) where
   formed-kept d h e (stores o l) = formed-changed (s .capability) _ (s .bell) (s .message) at-each (f .bell) mail-each
   formed-kept d h e (rings {x} o) =
       formed-changed (s .capability) (s .word) _ (s .message) at-each
-        (set-each (λ b v. v ≤ badgeMost) (s .bell) _ _ (f .bell)
-          (let k = f .bell (held s d x .object) in
-            let w = f .capability (slot d x) (o .has .there) .badge in
-            let i : bitOr (s .bell (held s d x .object)) (held s d x .badge) < 2 ^ 16 = or-lt 16 (s .bell (held s d x .object)) (held s d x .badge) (omega arith) (omega arith) in
-            omega arith))
-        mail-each
+      (set-each (λ b v. v ≤ badgeMost) (s .bell) _ _ (f .bell)
+      (let k = f .bell (held s d x .object) in
+      let w = f .capability (slot d x) (o .has .there) .badge in
+      let i : bitOr (s .bell (held s d x .object)) (held s d x .badge) < 2 ^ 16 = or-lt 16 (s .bell (held s d x .object)) (held s d x .badge) (omega arith) (omega arith) in
+      omega arith))
+      mail-each
   formed-kept d h e (hushes {x} o) =
       formed-changed (s .capability) (s .word) _ (s .message) at-each
-        (set-each (λ b v. v ≤ badgeMost) (s .bell) _ _ (f .bell) (omega arith)) mail-each
+      (set-each (λ b v. v ≤ badgeMost) (s .bell) _ _ (f .bell) (omega arith)) mail-each
   formed-kept d h e (puts {x} {t} {b} r o g l) =
       formed-places _ (set-each At (s .capability) (slot d t) _ at-each (at-slot d t h (g .inRange) (made-formed h o (derived-made _ _ r b l))))
-        (λ m z. ap (λ c. c .kind) (set-there (s .capability) (slot d t) _ (room m) (λ y. slot-room d t m (low h) (g .inRange) (sym y))) ∙ z)
+      (λ m z. ap (λ c. c .kind) (set-there (s .capability) (slot d t) _ (room m) (λ y. slot-room d t m (low h) (g .inRange) (sym y))) ∙ z)
   formed-kept d h e (drops {x} o) =
       formed-places _ (each-dropped At (s .capability) at-each (slot d x) at-nothing (λ q c. resourced-formed q (slot d x) (o .there) c))
-        (λ m z. dropped-alike (s .capability) (slot d x) (room m) (λ y. slot-room d x m (low h) (o .inRange) (sym y)) .kind ∙ z)
+      (λ m z. dropped-alike (s .capability) (slot d x) (room m) (λ y. slot-room d x m (low h) (o .inRange) (sym y)) .kind ∙ z)
   formed-kept d h e (prunes {x} o) =
       formed-places _ (each-pruned At (s .capability) at-each (slot d x) at-nothing)
-        (λ m z. each-pruned (λ q c. s .capability q .kind ≡ 0 → c .kind ≡ 0) (s .capability) (λ q y. y) (slot d x) (λ q y. refl) (room m) z)
+      (λ m z. each-pruned (λ q c. s .capability q .kind ≡ 0 → c .kind ≡ 0) (s .capability) (λ q y. y) (slot d x) (λ q y. refl) (room m) z)
   formed-kept d h e (posts {x} o z) =
       formed-mail _ _ _ (set-each At (s .capability) _ _ at-each (at-nothing _)) (mail-new o) (rooms-apart _ _)
   formed-kept d h e (sends {x} {c} o g a z) =
@@ -200,9 +200,9 @@ module _ {s : State} (f : Formed s) where
       formed-mail _ _ _ (set-each At (s .capability) _ _ at-each (at-nothing _)) (mail-none (ap (λ c. c .kind) (set-here (s .capability) _ _))) (rooms-apart _ _)
   formed-kept d h e (gets {x} {t} o u g) =
       formed-mail _ _ _
-        (set-each At _ (slot d t) _ (set-each At (s .capability) _ _ at-each (at-nothing _)) (at-slot d t h (g .inRange) (f .capability _ u)))
-        (mail-none (ap (λ c. c .kind) (set-there _ (slot d t) _ (room _) (away _) ∙ set-here (s .capability) _ _)))
-        (λ n k. set-there _ (slot d t) _ (room n) (away n) ∙ rooms-apart _ _ n k)
+      (set-each At _ (slot d t) _ (set-each At (s .capability) _ _ at-each (at-nothing _)) (at-slot d t h (g .inRange) (f .capability _ u)))
+      (mail-none (ap (λ c. c .kind) (set-there _ (slot d t) _ (room _) (away _) ∙ set-here (s .capability) _ _)))
+      (λ n k. set-there _ (slot d t) _ (room n) (away n) ∙ rooms-apart _ _ n k)
     where
       away : (m : ℕ) → room m ≡ slot d t → ⊥
       away m y = slot-room d t m (low h) (g .inRange) (sym y)

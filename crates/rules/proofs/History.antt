@@ -27,12 +27,12 @@ pub kept-fewer : {at to : Places} {l : Ledger} → Kept at l → ((q : ℕ) → 
 kept-fewer k still same =
     record {
       alike = λ p q h g.
-        let u = same p q h g in
-        let w = k .alike p q (still p h) (still q g) in
-        (λ x. w .0 (u .0 x), λ x. u .1 (w .1 x));
+          let u = same p q h g in
+          let w = k .alike p q (still p h) (still q g) in
+          (λ x. w .0 (u .0 x), λ x. u .1 (w .1 x));
       distinct = λ p q h g. k .distinct p q (still p h) (still q g);
       low = λ p h. k .low p (still p h);
-      older = k .older
+      older = k .older;
     }
 
 -- ---- a birth
@@ -119,13 +119,13 @@ module _ (at : Places) (l : Ledger) (k : Kept at l) (p y : ℕ) (c : Capability)
   unfolding P
   childless x h u =
       ⊎-elim
-        (λ z. ⊎-elim (λ e. let g = young in omega arith)
-          (λ w. let g = born-before (l .parent) (l .births) (suc (l .name y)) (k .older) young w in omega arith)
-          (newest (l .parent) (l .births) (suc (l .name y)) (k .older) refl young (subst (λ b. Ancestor (new (l .parent) (l .births) (suc (l .name y)) (k .older)) (l .births) b) z u)))
-        (λ n. let g : x < l .births = omega arith in
-          let w = born-before (l .parent) (l .births) (suc (l .name y)) (k .older) g (back (l .parent) (l .births) (suc (l .name y)) (k .older) g u) in
-          omega arith)
-        (same? x (l .births))
+      (λ z. ⊎-elim (λ e. let g = young in omega arith)
+      (λ w. let g = born-before (l .parent) (l .births) (suc (l .name y)) (k .older) young w in omega arith)
+      (newest (l .parent) (l .births) (suc (l .name y)) (k .older) refl young (subst (λ b. Ancestor (new (l .parent) (l .births) (suc (l .name y)) (k .older)) (l .births) b) z u)))
+      (λ n. let g : x < l .births = omega arith in
+      let w = born-before (l .parent) (l .births) (suc (l .name y)) (k .older) g (back (l .parent) (l .births) (suc (l .name y)) (k .older) g u) in
+      omega arith)
+      (same? x (l .births))
 
   -- below p: the place's names as they are
   Alike : ℕ → ℕ → ℕ → ℕ → Type 0
@@ -135,9 +135,10 @@ module _ (at : Places) (l : Ledger) (k : Kept at l) (p y : ℕ) (c : Capability)
   unfolding Alike P
   alike-away a q n m h g =
       let w = k .alike a q (still a n h) (still q m g) in
-      let b = k .low q (still q m g) in
-      (λ u. on (l .parent) (l .births) (suc (l .name y)) (k .older) b (w .0 (changed-back at to p leaf away self m u)),
-      λ u. changed-on at to p leaf away self m (w .1 (back (l .parent) (l .births) (suc (l .name y)) (k .older) b u)))
+      let b = k .low q (still q m g) in (
+        λ u. on (l .parent) (l .births) (suc (l .name y)) (k .older) b (w .0 (changed-back at to p leaf away self m u)),
+        λ u. changed-on at to p leaf away self m (w .1 (back (l .parent) (l .births) (suc (l .name y)) (k .older) b u)),
+      )
 
   alike-new : (a : ℕ) → (a ≡ p → ⊥) → Holds to a → Alike a p (l .name a) (l .births)
   unfolding Alike P
@@ -145,20 +146,22 @@ module _ (at : Places) (l : Ledger) (k : Kept at l) (p y : ℕ) (c : Capability)
     where
       held : Holds at a
       held = still a n h
+
       there-to : Derived to a p → Ancestor P (l .name a) (l .births)
       there-to u =
           ⊎-elim
-            (λ e. subst (λ x. Ancestor P (l .name x) (l .births)) (let w = source in let z : y ≡ a = omega arith in z)
-              (newest-parent (l .parent) (l .births) (suc (l .name y)) (k .older) refl))
-            (λ w. newest-older (l .parent) (l .births) (suc (l .name y)) (k .older) refl young
-              (k .alike a y held there .0
-                (subst (λ x. Derived at a x) (let v = source in let e = w .1 in let z : w .0 ≡ y = omega arith in z) (w .2))))
-            (changed-new at to p leaf away self u)
+          (λ e. subst (λ x. Ancestor P (l .name x) (l .births)) (let w = source in let z : y ≡ a = omega arith in z)
+          (newest-parent (l .parent) (l .births) (suc (l .name y)) (k .older) refl))
+          (λ w. newest-older (l .parent) (l .births) (suc (l .name y)) (k .older) refl young
+          (k .alike a y held there .0
+          (subst (λ x. Derived at a x) (let v = source in let e = w .1 in let z : w .0 ≡ y = omega arith in z) (w .2))))
+          (changed-new at to p leaf away self u)
+
       back-to : Ancestor P (l .name a) (l .births) → Derived to a p
       back-to u =
           ⊎-elim (λ e. direct (subst (λ x. Source to x p) (sym (k .distinct a y held there e)) source))
-            (λ w. changed-further at to p leaf away self source (k .alike a y held there .1 w))
-            (newest (l .parent) (l .births) (suc (l .name y)) (k .older) refl young u)
+          (λ w. changed-further at to p leaf away self source (k .alike a y held there .1 w))
+          (newest (l .parent) (l .births) (suc (l .name y)) (k .older) refl young u)
 
   alike-none : (q x : ℕ) → x ≤ l .births → Alike p q (l .births) x
   unfolding Alike
@@ -167,15 +170,15 @@ module _ (at : Places) (l : Ledger) (k : Kept at l) (p y : ℕ) (c : Capability)
   alike-born : (a q : ℕ) → Holds to a → Holds to q → (a ≡ p) ⊎ (a ≡ p → ⊥) → (q ≡ p) ⊎ (q ≡ p → ⊥) → Alike a q (l′ .name a) (l′ .name q)
   alike-born a q h g (inl z) (inl w) =
       subst (λ x. Alike x q (l′ .name x) (l′ .name q)) (sym z)
-        (subst (λ x. Alike p q x (l′ .name q)) (sym name-here)
-          (alike-none q (l′ .name q) (let e = ap (l′ .name) w ∙ name-here in omega arith)))
+      (subst (λ x. Alike p q x (l′ .name q)) (sym name-here)
+      (alike-none q (l′ .name q) (let e = ap (l′ .name) w ∙ name-here in omega arith)))
   alike-born a q h g (inl z) (inr m) =
       subst (λ x. Alike x q (l′ .name x) (l′ .name q)) (sym z)
-        (subst (λ x. Alike p q x (l′ .name q)) (sym name-here)
-          (alike-none q (l′ .name q) (let e = name-away q m in let b = k .low q (still q m g) in omega arith)))
+      (subst (λ x. Alike p q x (l′ .name q)) (sym name-here)
+      (alike-none q (l′ .name q) (let e = name-away q m in let b = k .low q (still q m g) in omega arith)))
   alike-born a q h g (inr n) (inl w) =
       subst (λ x. Alike a x (l′ .name a) (l′ .name x)) (sym w)
-        (subst (λ x. Alike a p (l′ .name a) x) (sym name-here) (subst (λ x. Alike a p x (l .births)) (sym (name-away a n)) (alike-new a n h)))
+      (subst (λ x. Alike a p (l′ .name a) x) (sym name-here) (subst (λ x. Alike a p x (l .births)) (sym (name-away a n)) (alike-new a n h)))
   alike-born a q h g (inr n) (inr m) =
       subst (λ x. Alike a q (l′ .name a) x) (sym (name-away q m)) (subst (λ x. Alike a q x (l .name q)) (sym (name-away a n)) (alike-away a q n m h g))
 
@@ -187,10 +190,10 @@ module _ (at : Places) (l : Ledger) (k : Kept at l) (p y : ℕ) (c : Capability)
   distinct-born : (a q : ℕ) → Holds to a → Holds to q → l′ .name a ≡ l′ .name q → a ≡ q
   distinct-born a q h g e =
       ⊎-elim
-        (λ u. ⊎-elim (λ w. u .0 ∙ sym (w .0)) (λ w. absurd (let x = u .1 in let y = w .2 in let z = w .3 in omega arith)) (name-born q g))
-        (λ u. ⊎-elim (λ w. absurd (let x = w .1 in let y = u .2 in let z = u .3 in omega arith))
-          (λ w. k .distinct a q (u .1) (w .1) (sym (u .2) ∙ (e ∙ w .2))) (name-born q g))
-        (name-born a h)
+      (λ u. ⊎-elim (λ w. u .0 ∙ sym (w .0)) (λ w. absurd (let x = u .1 in let y = w .2 in let z = w .3 in omega arith)) (name-born q g))
+      (λ u. ⊎-elim (λ w. absurd (let x = w .1 in let y = u .2 in let z = u .3 in omega arith))
+      (λ w. k .distinct a q (u .1) (w .1) (sym (u .2) ∙ (e ∙ w .2))) (name-born q g))
+      (name-born a h)
 
   -- a birth is recorded: a capability made from what y holds is put at p, which was free
   pub kept-born : Kept (set at p c) (born p y l)
@@ -201,11 +204,11 @@ module _ (at : Places) (l : Ledger) (k : Kept at l) (p y : ℕ) (c : Capability)
         distinct = distinct-born;
         low = λ q h. ⊎-elim (λ w. let x = w .1 in omega arith) (λ w. let x = w .2 in let z = w .3 in omega arith) (name-born q h);
         older = λ n m h e.
-          ⊎-elim
+            ⊎-elim
             (λ z. let w : suc (l .name y) ≡ suc m = sym (set-here (l .parent) (l .births) _) ∙ (ap (set (l .parent) (l .births) _) (sym z) ∙ e) in
-              let g = young in omega arith)
+            let g = young in omega arith)
             (λ g. let w = k .older n m (omega arith) (sym (set-there (l .parent) (l .births) _ n g) ∙ e) in omega arith)
-            (same? n (l .births))
+            (same? n (l .births));
       }
 
 -- ---- a move
@@ -238,7 +241,7 @@ module _ (at : Places) (l : Ledger) (k : Kept at l) (r p : ℕ) (held : Holds at
   unfolding mid
   mid-leaf q e =
       ⊎-elim (λ z. absurd (let w : 0 ≡ suc p = ap (λ x. x .source) (sym (set-here at r nothing)) ∙ (ap (λ y. mid y .source) (sym z) ∙ e) in omega arith))
-        (λ n. sources p q (ap (λ x. x .source) (sym (mid-away q n)) ∙ e) free) (same? q r)
+      (λ n. sources p q (ap (λ x. x .source) (sym (mid-away q n)) ∙ e) free) (same? q r)
 
   end-self : Source end p p → ⊥
   end-self e = sources p r (ap (λ x. x .source) (sym end-here) ∙ e) free
@@ -261,9 +264,9 @@ module _ (at : Places) (l : Ledger) (k : Kept at l) (r p : ℕ) (held : Holds at
   from-new : {a : ℕ} → Derived end a p → Derived at a r
   from-new u =
       ⊎-elim (λ e. direct (ap (λ x. x .source) (sym end-here) ∙ e))
-        (λ w. let e : Source at (w .0) r = ap (λ x. x .source) (sym end-here) ∙ w .1 in
-          further (changed-back at mid r leaf mid-away mid-self (other e) (w .2)) e)
-        (changed-new mid end p mid-leaf end-away end-self u)
+      (λ w. let e : Source at (w .0) r = ap (λ x. x .source) (sym end-here) ∙ w .1 in
+      further (changed-back at mid r leaf mid-away mid-self (other e) (w .2)) e)
+      (changed-new mid end p mid-leaf end-away end-self u)
 
   -- where the capability that is now at q was before
   Was : ℕ → ℕ → Type 0
@@ -273,11 +276,11 @@ module _ (at : Places) (l : Ledger) (k : Kept at l) (r p : ℕ) (held : Holds at
   unfolding moved mid Was
   was q h =
       ⊎-elim (λ z. (r, (held, ap (set (l .name) p (l .name r)) z ∙ set-here (l .name) p (l .name r), inl (z, refl))))
-        (λ n.
-          let g : Holds mid q = λ w. h (ap (λ x. x .kind) (end-away q n) ∙ w) in
-          let m : q ≡ r → ⊥ = λ z. g (ap (λ y. set at r nothing y .kind) z ∙ ap (λ x. x .kind) (set-here at r nothing)) in
-          (q, ((λ w. g (ap (λ x. x .kind) (mid-away q m) ∙ w)), set-there (l .name) p (l .name r) q n, inr (n, m, refl))))
-        (same? q p)
+      (λ n.
+      let g : Holds mid q = λ w. h (ap (λ x. x .kind) (end-away q n) ∙ w) in
+      let m : q ≡ r → ⊥ = λ z. g (ap (λ y. set at r nothing y .kind) z ∙ ap (λ x. x .kind) (set-here at r nothing)) in
+      (q, ((λ w. g (ap (λ x. x .kind) (mid-away q m) ∙ w)), set-there (l .name) p (l .name r) q n, inr (n, m, refl))))
+      (same? q p)
 
   derived-was : (a b q o : ℕ) → Was a b → Was q o → Derived end a q ↔ Derived at b o
   unfolding Was
@@ -285,25 +288,30 @@ module _ (at : Places) (l : Ledger) (k : Kept at l) (r p : ℕ) (held : Holds at
     where
       -- nothing is derived from what has moved, as nothing was
       none : (a ≡ p) × (b ≡ r) → Derived end a q ↔ Derived at b o
-      none x =
-          (λ v. absurd (leaf-childless (changed-leaf mid end p mid-leaf end-away end-self) (subst (λ y. Derived end y q) (x .0) v)),
-          λ v. absurd (leaf-childless leaf (subst (λ y. Derived at y o) (x .1) v)))
+      none x = (
+        λ v. absurd (leaf-childless (changed-leaf mid end p mid-leaf end-away end-self) (subst (λ y. Derived end y q) (x .0) v)),
+        λ v. absurd (leaf-childless leaf (subst (λ y. Derived at y o) (x .1) v)),
+      )
+
       new-one : (a ≡ p → ⊥) × (a ≡ r → ⊥) × (b ≡ a) → (q ≡ p) × (o ≡ r) → Derived end a q ↔ Derived at b o
-      new-one x y =
-          (λ v. subst (λ z. Derived at z o) (sym (x .2)) (subst (λ z. Derived at a z) (sym (y .1)) (from-new (subst (λ z. Derived end a z) (y .0) v))),
-          λ v. subst (λ z. Derived end a z) (sym (y .0)) (to-new (subst (λ z. Derived at a z) (y .1) (subst (λ z. Derived at z o) (x .2) v))))
+      new-one x y = (
+        λ v. subst (λ z. Derived at z o) (sym (x .2)) (subst (λ z. Derived at a z) (sym (y .1)) (from-new (subst (λ z. Derived end a z) (y .0) v))),
+        λ v. subst (λ z. Derived end a z) (sym (y .0)) (to-new (subst (λ z. Derived at a z) (y .1) (subst (λ z. Derived at z o) (x .2) v))),
+      )
+
       old-one : (a ≡ p → ⊥) × (a ≡ r → ⊥) × (b ≡ a) → (q ≡ p → ⊥) × (q ≡ r → ⊥) × (o ≡ q) → Derived end a q ↔ Derived at b o
-      old-one x y =
-          (λ v. subst (λ z. Derived at z o) (sym (x .2)) (subst (λ z. Derived at a z) (sym (y .2)) (from-end (y .1) (y .0) v)),
-          λ v. to-end (y .1) (y .0) (subst (λ z. Derived at a z) (y .2) (subst (λ z. Derived at z o) (x .2) v)))
+      old-one x y = (
+        λ v. subst (λ z. Derived at z o) (sym (x .2)) (subst (λ z. Derived at a z) (sym (y .2)) (from-end (y .1) (y .0) v)),
+        λ v. to-end (y .1) (y .0) (subst (λ z. Derived at a z) (y .2) (subst (λ z. Derived at z o) (x .2) v)),
+      )
 
   back-again : (a b q o : ℕ) → Was a b → Was q o → b ≡ o → a ≡ q
   unfolding Was
   back-again a b q o u w e =
       ⊎-elim
-        (λ x. ⊎-elim (λ y. x .0 ∙ sym (y .0)) (λ y. absurd (y .1 (sym (y .2) ∙ (sym e ∙ x .1)))) (w .2))
-        (λ x. ⊎-elim (λ y. absurd (x .1 (sym (x .2) ∙ (e ∙ y .1)))) (λ y. sym (x .2) ∙ (e ∙ y .2)) (w .2))
-        (u .2)
+      (λ x. ⊎-elim (λ y. x .0 ∙ sym (y .0)) (λ y. absurd (y .1 (sym (y .2) ∙ (sym e ∙ x .1)))) (w .2))
+      (λ x. ⊎-elim (λ y. absurd (x .1 (sym (x .2) ∙ (e ∙ y .1)))) (λ y. sym (x .2) ∙ (e ∙ y .2)) (w .2))
+      (u .2)
 
   -- a capability moves from r to p, which was free
   pub kept-moved : Kept (set (set at r nothing) p (at r)) (moved p r l)
@@ -311,16 +319,17 @@ module _ (at : Places) (l : Ledger) (k : Kept at l) (r p : ℕ) (held : Holds at
   kept-moved =
       record {
         alike = λ a q h g.
-          let (b, u) = was a h in
-          let (o, w) = was q g in
-          let d = derived-was a b q o u w in
-          let c = k .alike b o (u .0) (w .0) in
-          (λ v. subst (λ z. Ancestor (l .parent) z (moved p r l .name q)) (sym (u .1)) (subst (λ z. Ancestor (l .parent) (l .name b) z) (sym (w .1)) (c .0 (d .0 v))),
-          λ v. d .1 (c .1 (subst (λ z. Ancestor (l .parent) (l .name b) z) (w .1) (subst (λ z. Ancestor (l .parent) z (moved p r l .name q)) (u .1) v))));
+            let (b, u) = was a h in
+            let (o, w) = was q g in
+            let d = derived-was a b q o u w in
+            let c = k .alike b o (u .0) (w .0) in (
+              λ v. subst (λ z. Ancestor (l .parent) z (moved p r l .name q)) (sym (u .1)) (subst (λ z. Ancestor (l .parent) (l .name b) z) (sym (w .1)) (c .0 (d .0 v))),
+              λ v. d .1 (c .1 (subst (λ z. Ancestor (l .parent) (l .name b) z) (w .1) (subst (λ z. Ancestor (l .parent) z (moved p r l .name q)) (u .1) v))),
+            );
         distinct = λ a q h g e.
-          let (b, u) = was a h in
-          let (o, w) = was q g in
-          back-again a b q o u w (k .distinct b o (u .0) (w .0) (sym (u .1) ∙ (e ∙ w .1)));
+            let (b, u) = was a h in
+            let (o, w) = was q g in
+            back-again a b q o u w (k .distinct b o (u .0) (w .0) (sym (u .1) ∙ (e ∙ w .1)));
         low = λ q h. let (o, w) = was q h in let z = k .low o (w .0) in let e = w .1 in omega arith;
-        older = k .older
+        older = k .older;
       }

@@ -10,7 +10,7 @@ use lib.Bits.{bitAnd, and-step, and-self, and-comm}
 use lib.Arith.{bin-ind}
 use borrow.Author.Tests.{ltb-true, leb-true, eqb-true, eqb-false, eq-eqb, ne-eqb}
 use Rattle.rules.specs.State.{within}
-use Rattle.rules.specs.Turn.{_then_else_, present, set, conclude}
+use Rattle.rules.specs.Turn.{_then_else_, present, set, refusal, conclude}
 use Rattle.rules.specs.declared.Answer.{Answer}
 use Rattle.rules.specs.declared.Effect.{Effect}
 use Rattle.rules.specs.declared.Effect.the-variants.{Nothing}
@@ -52,6 +52,18 @@ pub concluded : (P : Effect → Type 0) (e : ℕ) (f : Effect) (a : Answer) → 
 unfolding conclude
 concluded P zero f a n h = h refl
 concluded P (suc e) f a n h = n
+
+-- what P needs of a decision's effect and answer: it holds of each refusal, and of f and a where no check refused
+pub concluded-both : (P : Effect → Answer → Type 0) (e : ℕ) (f : Effect) (a : Answer) → ((n : ℕ) → P Nothing (refusal (suc n)))
+    → (e ≡ 0 → P f a) → P (conclude e f a .effect) (conclude e f a .answer)
+unfolding conclude
+concluded-both P zero f a r h = h refl
+concluded-both P (suc e) f a r h = r e
+
+pub unrefused : (e : ℕ) (f : Effect) (a : Answer) → e ≡ 0 → conclude e f a .effect ≡ f
+unfolding conclude
+unrefused zero f a h = refl
+unrefused (suc e) f a h = absurd (omega arith)
 
 -- ---- nothing and something
 

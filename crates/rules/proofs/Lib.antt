@@ -13,4 +13,5 @@ pub mod Revoke
 pub mod Confinement
 pub mod Reached
 pub mod History
+pub mod Followed
 pub mod Worked

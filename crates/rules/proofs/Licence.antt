@@ -79,7 +79,7 @@ module _ (s : State) (d : ℕ) where
       gets o (present-true _ r) (record { inRange = ltb-true t slots i; free = present-false _ f })
   received x t false e o = takes o
 
-  by-name : (n : Name) (o : Operation) → Licence s d (decided s d n o .effect)
+  pub by-name : (n : Name) (o : Operation) → Licence s d (decided s d n o .effect)
   unfolding decided load store derive delete revoke ring hear send receive look
   by-name IDLE o = concluded (Licence s d) _ _ _ nothing-done (λ h. nothing-done)
   by-name LOAD o = concluded (Licence s d) _ _ _ nothing-done (λ h. nothing-done)
@@ -118,3 +118,29 @@ module _ (s : State) (d : ℕ) where
   pub licensed : (o : Operation) → Licence s d (decide s d o .effect)
   unfolding decide
   licensed o = by-name (named (o .number)) o
+
+-- what an effect needs of the places and mailboxes that it fills or empties
+abbrev pub Need : State → Effect → Type 0
+Need s Nothing = Unit {0}
+Need s (Store f w v) = Unit {0}
+Need s (Ring b v) = Unit {0}
+Need s (Hush b) = Unit {0}
+Need s (Put p c) = s .capability p .kind ≡ 0
+Need s (Drop p) = Holds (s .capability) p
+Need s (Prune p) = Holds (s .capability) p
+Need s (Post m g c) = s .message m .full ≡ 0
+Need s (Take m) = Unit {0}
+Need s (Move m p) = (s .capability p .kind ≡ 0) × Holds (s .capability) (room m)
+
+pub needed : {s : State} {d : ℕ} {e : Effect} → Licence s d e → Need s e
+needed nothing-done = tt
+needed (stores o l) = tt
+needed (rings o) = tt
+needed (hushes o) = tt
+needed (puts r o g l) = g .free
+needed (drops o) = o .there
+needed (prunes o) = o .there
+needed (posts o z) = z
+needed (sends o g a z) = z
+needed (takes o) = tt
+needed (gets o u g) = (g .free, u)

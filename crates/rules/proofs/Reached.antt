@@ -12,17 +12,16 @@ use Rattle.rules.specs.State.{State, slot, room, whose, Derived, Section
 use Rattle.rules.specs.Turn.{apply, advance, next, decide}
 use Rattle.rules.specs.Image.{Bytes, Entry, Image, refusalOf, imageOf, capabilityOf, given, boot}
 use Rattle.rules.specs.Flow.{tripleOf, image}
-use Rattle.rules.specs.Authority.{Reached, booted, turned, Section4Always, FormedAlways, NeverMore, Revoked, RevokeExactly, Deleted, DeleteKeeps, ReusedIsFresh, Covered, Confined, Confinement}
+use Rattle.rules.specs.Authority.{Reached, booted, turned, Section4Always, FormedAlways, NeverMore, RevokeExactly, DeleteKeeps, ReusedIsFresh, Covered, Confined, Confinement}
 use Rattle.rules.specs.declared.Operation.{Operation}
 use Rattle.rules.proofs.Laws.{passes, within-refl}
 use Rattle.rules.proofs.Licence.{licensed}
 use Rattle.rules.proofs.Section4.{never-more-than}
 use Rattle.rules.proofs.Always.{Sound, section4-kept}
 use Rattle.rules.proofs.Formed.{formed-kept, whose-low}
-use Rattle.rules.proofs.Chain.{test-is-derived}
 use Rattle.rules.proofs.Given.{given-from, FormRight, form-right}
 use Rattle.rules.proofs.Bootable.{held-below, boot-section4, boot-formed}
-use Rattle.rules.proofs.Revoke.{revoked, revoked-next, deleted, deleted-next, fresh}
+use Rattle.rules.proofs.Revoke.{revoked, revoking, deleted, deleting, fresh}
 use Rattle.rules.proofs.Confinement.{confined-next}
 
 -- what an entry gives, its domain could hold
@@ -46,7 +45,7 @@ formed-advance {s} f =
       bell = f .bell;
       full = f .full;
       emptied = f .emptied;
-      badge = f .badge
+      badge = f .badge;
     }
   where
     moved : (t : Bool) → eqb (suc (s .position)) (length (s .turns)) ≡ t → cond t 0 (suc (s .position)) < length (s .turns)
@@ -59,7 +58,7 @@ unfolding next advance
 sound-next {s} f o =
     let h = whose-low (f .formed) in
     let l = licensed s (whose s) o in
-    record { formed = formed-advance (formed-kept (f .formed) (whose s) h _ l); section4 = section4-kept test-is-derived f (whose s) h _ l }
+    record { formed = formed-advance (formed-kept (f .formed) (whose s) h _ l); section4 = section4-kept f (whose s) h _ l }
 
 pub sound : {b : List ℕ} {s : State} → Reached b s → Sound s
 sound (booted y e) = record { formed = boot-formed _ y e; section4 = boot-section4 _ e }
@@ -75,12 +74,10 @@ pub never-more : NeverMore
 never-more b s r p q u = never-more-than (sound r .section4) u
 
 pub revoke-exactly : RevokeExactly
-revoke-exactly b s r o e h =
-    subst (λ t. Revoked s t (slot (whose s) (o .first))) (sym (revoked-next s o e h)) (revoked (sound r) test-is-derived (slot (whose s) (o .first)))
+revoke-exactly b s r o e h = revoked (sound r) o _ (revoking s o e h)
 
 pub delete-keeps : DeleteKeeps
-delete-keeps b s r o e h =
-    subst (λ t. Deleted s t (slot (whose s) (o .first))) (sym (deleted-next s o e h)) (deleted (sound r) (slot (whose s) (o .first)))
+delete-keeps b s r o e h = deleted (sound r) o _ (deleting s o e h)
 
 pub reused-is-fresh : ReusedIsFresh
 reused-is-fresh b s r o p q = fresh (sound r) o p q
@@ -93,15 +90,16 @@ unfolding boot refusalOf
 boot-confined b y h =
     record {
       inSlots = λ d x l g n.
-        let (e, m, p, c) = given-from (imageOf b .entries) (slot d x) n in
-        let r = form .entry e m in
-        subst (λ a. Covered (imageOf b) a (given (imageOf b .entries) (slot d x))) (let w : e .domain ≡ d = (let t = r .slot in omega arith) in w)
+          let (e, m, p, c) = given-from (imageOf b .entries) (slot d x) n in
+          let r = form .entry e m in
+          subst (λ a. Covered (imageOf b) a (given (imageOf b .entries) (slot d x))) (let w : e .domain ≡ d = (let t = r .slot in omega arith) in w)
           (subst (λ a. Covered (imageOf b) (e .domain) a) (sym c) (entered e m));
-      underWay = λ m d w n. absurd (let k = held-below b form (room m) n in let j = form .domains .1 in omega arith)
+      underWay = λ m d w n. absurd (let k = held-below b form (room m) n in let j = form .domains .1 in omega arith);
     }
   where
     form : FormRight b
     form = form-right b (passes _ _ 25 h .0)
+
     entered : (e : Entry) → List·Memᴰ e (imageOf b .entries) → Covered (imageOf b) (e .domain) (capabilityOf e)
     entered e m = entry-covered (imageOf b) e m
 

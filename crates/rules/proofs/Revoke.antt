@@ -7,7 +7,7 @@ use Prim.Native.Nat.{ℕ, zero, suc, _<_}
 use native.Mathlib.Omega.{arith}
 use Rattle.rules.specs.State.{State, Places, slot, room, nothing, whose, Holds, Source, Derived, Section4, Formed}
 use Rattle.rules.specs.Turn.{anySlot, words, conclude, delete, revoke, Name, DELETE, REVOKE, named, decided, decide, held, derived, copied, set, dropped, pruned, apply, advance, next, answer}
-use Rattle.rules.specs.Authority.{Reached, OnlyPlaces, Revoked, RevokeExactly, Deleted, DeleteKeeps, ReusedIsFresh, TestIsDerived}
+use Rattle.rules.specs.Authority.{Reached, OnlyPlaces, Revoked, RevokeExactly, Deleted, DeleteKeeps, ReusedIsFresh}
 use Rattle.rules.specs.declared.Capability.{Capability}
 use Rattle.rules.specs.declared.Answer.{Answer}
 use Rattle.rules.specs.declared.Operation.{Operation}
@@ -28,41 +28,49 @@ succeeded (suc e) f a h = absurd (let g : suc e ≡ 0 = h in omega arith)
 
 effect-of : (s : State) (o : Operation) (n : Name) (f : Effect) → named (o .number) ≡ n
     → (decided s (whose s) n o .answer .status ≡ 0 → decided s (whose s) n o .effect ≡ f)
-    → answer s o .status ≡ 0 → next s o ≡ advance (apply s f)
-unfolding answer next decide
-effect-of s o n f e k h =
-    ap (λ x. advance (apply s x)) (subst (λ m. decided s (whose s) m o .answer .status ≡ 0 → decided s (whose s) m o .effect ≡ f) (sym e) k h)
+    → answer s o .status ≡ 0 → decide s (whose s) o .effect ≡ f
+unfolding answer decide
+effect-of s o n f e k h = subst (λ m. decided s (whose s) m o .answer .status ≡ 0 → decided s (whose s) m o .effect ≡ f) (sym e) k h
 
-pub revoked-next : (s : State) (o : Operation) → named (o .number) ≡ REVOKE → answer s o .status ≡ 0
-    → next s o ≡ advance (apply s (Prune (slot (whose s) (o .first))))
+-- the effects of a REVOKE and of a DELETE that were not refused
+pub revoking : (s : State) (o : Operation) → named (o .number) ≡ REVOKE → answer s o .status ≡ 0
+    → decide s (whose s) o .effect ≡ Prune (slot (whose s) (o .first))
 unfolding decided revoke
-revoked-next s o e h = effect-of s o REVOKE _ e (succeeded (anySlot s (whose s) (o .first)) _ (words 0 0 0 0 0 0)) h
+revoking s o e h = effect-of s o REVOKE _ e (succeeded (anySlot s (whose s) (o .first)) _ (words 0 0 0 0 0 0)) h
 
-pub deleted-next : (s : State) (o : Operation) → named (o .number) ≡ DELETE → answer s o .status ≡ 0
-    → next s o ≡ advance (apply s (Drop (slot (whose s) (o .first))))
+pub deleting : (s : State) (o : Operation) → named (o .number) ≡ DELETE → answer s o .status ≡ 0
+    → decide s (whose s) o .effect ≡ Drop (slot (whose s) (o .first))
 unfolding decided delete
-deleted-next s o e h = effect-of s o DELETE _ e (succeeded (anySlot s (whose s) (o .first)) _ (words 0 0 0 0 0 0)) h
+deleting s o e h = effect-of s o DELETE _ e (succeeded (anySlot s (whose s) (o .first)) _ (words 0 0 0 0 0 0)) h
 
 module _ {s : State} (f : Sound s) where
-  pub revoked : TestIsDerived → (p : ℕ) → Revoked s (advance (apply s (Prune p))) p
+  pruned-so : (p : ℕ) → Revoked s (advance (apply s (Prune p))) p
   unfolding advance apply
-  revoked test p =
+  pruned-so p =
       record {
-        gone = pruning-gone test f p;
-        kept = pruning-kept test f p;
-        stays = pruning-kept test f p p (f .section4 .noReturn);
-        rest = record { domains = refl; frames = refl; turns = refl; word = refl; bell = refl; message = refl }
+        gone = pruning-gone f p;
+        kept = pruning-kept f p;
+        stays = pruning-kept f p p (f .section4 .noReturn);
+        rest = record { domains = refl; frames = refl; turns = refl; word = refl; bell = refl; message = refl };
       }
 
-  pub deleted : (p : ℕ) → Deleted s (advance (apply s (Drop p))) p
+  pub revoked : (o : Operation) (p : ℕ) → decide s (whose s) o .effect ≡ Prune p → Revoked s (next s o) p
+  unfolding next
+  revoked o p e = subst (λ x. Revoked s (advance (apply s x)) p) (sym e) (pruned-so p)
+
+  dropped-so : (p : ℕ) → Deleted s (advance (apply s (Drop p))) p
   unfolding advance apply
-  deleted p =
+  dropped-so p =
       record {
         gone = dropped-here (s .capability) p;
         kept = dropped-alike (s .capability) p;
         between = λ q r h g. (λ u. dropped-back (s .capability) p u, λ u. dropped-on (s .capability) p (f .section4 .noReturn) h g u);
-        rest = record { domains = refl; frames = refl; turns = refl; word = refl; bell = refl; message = refl }
+        rest = record { domains = refl; frames = refl; turns = refl; word = refl; bell = refl; message = refl };
       }
+
+  pub deleted : (o : Operation) (p : ℕ) → decide s (whose s) o .effect ≡ Drop p → Deleted s (next s o) p
+  unfolding next
+  deleted o p e = subst (λ x. Deleted s (advance (apply s x)) p) (sym e) (dropped-so p)
 
   -- what has a source x was made from what x held before
   From : Capability → Type 0
