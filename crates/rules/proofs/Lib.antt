@@ -1,3 +1,5 @@
 pub mod Laws
 pub mod Licence
+pub mod View
+pub mod Outside
 pub mod Worked

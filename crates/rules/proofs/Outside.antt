@@ -1,0 +1,77 @@
+-- Each licensed effect keeps the tie of sources to L; that of a domain outside L changes nothing that L sees. Assumes nothing.
+use mathlib.Core.Path.{_≡_, refl, sym, ap, _∙_, subst}
+use mathlib.Core.Bool.{Bool, true, false, cond}
+use mathlib.Core.Logic.{inl, inr}
+use Prim.Native.Nat.{ℕ, suc, _<_}
+use native.Mathlib.Omega.{arith}
+use Rattle.rules.specs.Sizes.{domainsMost, slots, places}
+use Rattle.rules.specs.State.{State, slot, room, nothing, derivedFrom}
+use Rattle.rules.specs.Turn.{derived, copied, set, apply}
+use Rattle.rules.specs.Image.{Image}
+use Rattle.rules.specs.Flow.{Case, Closed, frame, ringing, hearing, mailbox}
+use Rattle.rules.specs.declared.Capability.{Capability}
+use Rattle.rules.specs.declared.Effect.{Effect}
+use Rattle.rules.proofs.Laws.{not-both}
+use Rattle.rules.proofs.Licence.{Owns, Licence, nothing-done, stores, rings, hushes, puts, drops, prunes, posts, sends, takes, gets}
+use Rattle.rules.proofs.View.{set-each, dropped-each, pruned-each, Some, Ours, Seen, own, mail, View, Tied, Tie, Able, view-refl, ours-slot, seen-slot, seen-room, comes-not, drawn}
+
+untied : {L : ℕ → Bool} → Tied L 0
+untied p e = absurd (omega arith)
+
+tied-to : {L : ℕ → Bool} {p : ℕ} → Ours L p → Tied L (suc p)
+tied-to {L} {p} o q e = let f : p ≡ q = omega arith in subst (λ k. Ours L k) f o
+
+-- a value set where P does not look
+set-hidden : {A : Type 0} {P : ℕ → Type 0} {f : ℕ → A} {i : ℕ} {v : A} → (P i → ⊥) → (j : ℕ) → P j → f j ≡ set f i v j
+set-hidden {P} {f} hidden = set-each (λ j x. P j → f j ≡ x) (λ j h. refl) (λ h. absurd (hidden h))
+
+module _ (i : Image) (L : ℕ → Bool) (closed : Closed i L) (s : State) (d : ℕ) (below : d < domainsMost) (able : Able i s d)
+    (tie : Tie i L (s .capability)) where
+  -- a licensed effect keeps the tie
+  pub tie-kept : {e : Effect} → Licence s d e → Tie i L (apply s e .capability)
+  unfolding apply derived copied
+  tie-kept nothing-done = tie
+  tie-kept (stores o w) = tie
+  tie-kept (rings o) = tie
+  tie-kept (hushes o) = tie
+  tie-kept (puts r h f b) =
+      set-each (λ q c. Seen i L q → Tied L (c .source)) tie
+      (λ seen. tied-to (ours-slot below (h .inRange) (seen-slot d below (f .inRange) seen)))
+  tie-kept (drops h) =
+      λ q seen. dropped-each (λ c. Tied L (c .source)) (s .capability) _ q (λ e. untied) (λ e. tie _ (own (tie q seen _ e))) (tie q seen)
+  tie-kept (prunes h) = λ q seen. pruned-each (λ c. Tied L (c .source)) (s .capability) _ q (λ e. untied) (tie q seen)
+  tie-kept (posts o f) = set-each (λ q c. Seen i L q → Tied L (c .source)) tie (λ seen. untied)
+  tie-kept (sends o g h f) =
+      set-each (λ q c. Seen i L q → Tied L (c .source)) tie
+      (λ seen. tied-to (ours-slot below (h .inRange) (drawn i L closed d (λ a. mailbox (inl (able _ _ _ o))) (seen-room seen))))
+  tie-kept (takes o) = set-each (λ q c. Seen i L q → Tied L (c .source)) tie (λ seen. untied)
+  tie-kept (gets o h f) =
+      set-each (λ q c. Seen i L q → Tied L (c .source)) (set-each (λ q c. Seen i L q → Tied L (c .source)) tie (λ seen. untied))
+      (λ seen. tie _ (mail refl (record { domain = d; inside = seen-slot d below (f .inRange) seen; does = inr (able _ _ _ o) })))
+
+  module _ (out : L d ≡ false) where
+    -- what a domain outside L could reach, L does not see
+    unseen : {R : ℕ → Type 0} → ((a : ℕ) → R a → Case i d a) → Some L R → ⊥
+    unseen case u = not-both (drawn i L closed d case u) out
+
+    not-ours : {x : ℕ} → x < slots → Seen i L (slot d x) → ⊥
+    not-ours r seen = not-both (seen-slot d below r seen) out
+
+    not-derived : {x : ℕ} → x < slots → (q : ℕ) → Seen i L q → derivedFrom (s .capability) (slot d x) q ≡ false
+    unfolding derivedFrom
+    not-derived r q seen = comes-not (s .capability) tie _ (λ o. not-ours r (own o)) places _ (tie q seen)
+
+    -- a domain outside L changes nothing of the view
+    pub outside : {e : Effect} → Licence s d e → View i L s (apply s e)
+    unfolding apply
+    outside nothing-done = view-refl s
+    outside (stores o w) = ?
+    outside (rings o) = ?
+    outside (hushes o) = ?
+    outside (puts r h f b) = ?
+    outside (drops h) = ?
+    outside (prunes h) = ?
+    outside (posts o f) = ?
+    outside (sends o g h f) = ?
+    outside (takes o) = ?
+    outside (gets o h f) = ?
