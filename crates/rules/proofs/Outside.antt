@@ -5,15 +5,16 @@ use mathlib.Core.Logic.{inl, inr}
 use Prim.Native.Nat.{ℕ, suc, _<_}
 use native.Mathlib.Omega.{arith}
 use Rattle.rules.specs.Sizes.{domainsMost, slots, places}
-use Rattle.rules.specs.State.{State, slot, room, nothing, derivedFrom}
-use Rattle.rules.specs.Turn.{derived, copied, set, apply}
+use Rattle.rules.specs.State.{State, Places, slot, room, nothing, noMessage, derivedFrom}
+use Rattle.rules.specs.Turn.{derived, copied, set, changed, withMail, withPlaces, apply}
 use Rattle.rules.specs.Image.{Image}
 use Rattle.rules.specs.Flow.{Case, Closed, frame, ringing, hearing, mailbox}
 use Rattle.rules.specs.declared.Capability.{Capability}
+use Rattle.rules.specs.declared.Message.{Message}
 use Rattle.rules.specs.declared.Effect.{Effect}
 use Rattle.rules.proofs.Laws.{not-both}
 use Rattle.rules.proofs.Licence.{Owns, Licence, nothing-done, stores, rings, hushes, puts, drops, prunes, posts, sends, takes, gets}
-use Rattle.rules.proofs.View.{set-each, dropped-each, pruned-each, Some, Ours, Seen, own, mail, View, Tied, Tie, Able, view-refl, ours-slot, seen-slot, seen-room, comes-not, drawn}
+use Rattle.rules.proofs.View.{set-each, dropped-each, pruned-each, Some, Frame, Bell, Mailbox, Ours, Seen, own, mail, View, Tied, Tie, Able, view-refl, ours-slot, seen-slot, seen-room, comes-not, drawn}
 
 untied : {L : ℕ → Bool} → Tied L 0
 untied p e = absurd (omega arith)
@@ -22,8 +23,12 @@ tied-to : {L : ℕ → Bool} {p : ℕ} → Ours L p → Tied L (suc p)
 tied-to {L} {p} o q e = let f : p ≡ q = omega arith in subst (λ k. Ours L k) f o
 
 -- a value set where P does not look
-set-hidden : {A : Type 0} {P : ℕ → Type 0} {f : ℕ → A} {i : ℕ} {v : A} → (P i → ⊥) → (j : ℕ) → P j → f j ≡ set f i v j
-set-hidden {P} {f} hidden = set-each (λ j x. P j → f j ≡ x) (λ j h. refl) (λ h. absurd (hidden h))
+set-hidden : {A : Type 0} (P : ℕ → Type 0) (f : ℕ → A) (i : ℕ) (v : A) → (P i → ⊥) → (j : ℕ) → P j → f j ≡ set f i v j
+set-hidden P f i v hidden = set-each (λ j x. P j → f j ≡ x) (λ j h. refl) (λ h. absurd (hidden h))
+
+-- the tie at one place
+abbrev TiedAt : Image → (ℕ → Bool) → ℕ → Capability → Type 0
+TiedAt i L q c = Seen i L q → Tied L (c .source)
 
 module _ (i : Image) (L : ℕ → Bool) (closed : Closed i L) (s : State) (d : ℕ) (below : d < domainsMost) (able : Able i s d)
     (tie : Tie i L (s .capability)) where
@@ -35,18 +40,18 @@ module _ (i : Image) (L : ℕ → Bool) (closed : Closed i L) (s : State) (d : �
   tie-kept (rings o) = tie
   tie-kept (hushes o) = tie
   tie-kept (puts r h f b) =
-      set-each (λ q c. Seen i L q → Tied L (c .source)) tie
+      set-each (TiedAt i L) tie
       (λ seen. tied-to (ours-slot below (h .inRange) (seen-slot d below (f .inRange) seen)))
   tie-kept (drops h) =
       λ q seen. dropped-each (λ c. Tied L (c .source)) (s .capability) _ q (λ e. untied) (λ e. tie _ (own (tie q seen _ e))) (tie q seen)
   tie-kept (prunes h) = λ q seen. pruned-each (λ c. Tied L (c .source)) (s .capability) _ q (λ e. untied) (tie q seen)
-  tie-kept (posts o f) = set-each (λ q c. Seen i L q → Tied L (c .source)) tie (λ seen. untied)
+  tie-kept (posts o f) = set-each (TiedAt i L) tie (λ seen. untied)
   tie-kept (sends o g h f) =
-      set-each (λ q c. Seen i L q → Tied L (c .source)) tie
+      set-each (TiedAt i L) tie
       (λ seen. tied-to (ours-slot below (h .inRange) (drawn i L closed d (λ a. mailbox (inl (able _ _ _ o))) (seen-room seen))))
-  tie-kept (takes o) = set-each (λ q c. Seen i L q → Tied L (c .source)) tie (λ seen. untied)
+  tie-kept (takes o) = set-each (TiedAt i L) tie (λ seen. untied)
   tie-kept (gets o h f) =
-      set-each (λ q c. Seen i L q → Tied L (c .source)) (set-each (λ q c. Seen i L q → Tied L (c .source)) tie (λ seen. untied))
+      set-each (TiedAt i L) (set-each (TiedAt i L) tie (λ seen. untied))
       (λ seen. tie _ (mail refl (record { domain = d; inside = seen-slot d below (f .inRange) seen; does = inr (able _ _ _ o) })))
 
   module _ (out : L d ≡ false) where
@@ -61,17 +66,55 @@ module _ (i : Image) (L : ℕ → Bool) (closed : Closed i L) (s : State) (d : �
     unfolding derivedFrom
     not-derived r q seen = comes-not (s .capability) tie _ (λ o. not-ours r (own o)) places _ (tie q seen)
 
+    placed : {at : Places} → ((q : ℕ) → Seen i L q → s .capability q ≡ at q) → View i L s (withPlaces s at)
+    placed h = record { capability = h; word = λ f h w. refl; bell = λ b h. refl; message = λ m h. refl }
+
+    ringed : {b : ℕ} (n : ℕ) → (Bell i L b → ⊥) → View i L s (changed s (s .capability) (s .word) (set (s .bell) b n) (s .message))
+    ringed {b} n hidden =
+        record {
+          capability = λ q h. refl;
+          word = λ f h w. refl;
+          bell = set-hidden (Bell i L) (s .bell) b n hidden;
+          message = λ m h. refl;
+        }
+
+    mailed : {m : ℕ} (g : Message) (c : Capability) → (Mailbox i L m → ⊥)
+        → View i L s (withMail s (set (s .capability) (room m) c) (set (s .message) m g))
+    mailed {m} g c hidden =
+        record {
+          capability = set-hidden (Seen i L) (s .capability) (room m) c (λ seen. hidden (seen-room seen));
+          word = λ f h w. refl;
+          bell = λ b h. refl;
+          message = set-hidden (Mailbox i L) (s .message) m g hidden;
+        }
+
     -- a domain outside L changes nothing of the view
     pub outside : {e : Effect} → Licence s d e → View i L s (apply s e)
     unfolding apply
     outside nothing-done = view-refl s
-    outside (stores o w) = ?
-    outside (rings o) = ?
-    outside (hushes o) = ?
-    outside (puts r h f b) = ?
-    outside (drops h) = ?
-    outside (prunes h) = ?
-    outside (posts o f) = ?
-    outside (sends o g h f) = ?
-    outside (takes o) = ?
-    outside (gets o h f) = ?
+    outside (stores o w) =
+        record {
+          capability = λ q h. refl;
+          word = λ f h k. ap (λ g. g k) (set-hidden (Frame i L) (s .word) _ _ (unseen (λ a. frame (able _ _ _ o))) f h);
+          bell = λ b h. refl;
+          message = λ m h. refl;
+        }
+    outside (rings o) = ringed _ (unseen (λ a. ringing (able _ _ _ o)))
+    outside (hushes o) = ringed _ (unseen (λ a. hearing (able _ _ _ o)))
+    outside (puts r h f b) = placed (set-hidden (Seen i L) (s .capability) _ _ (not-ours (f .inRange)))
+    outside (drops h) = placed
+        (λ q seen. dropped-each (λ c. s .capability q ≡ c) (s .capability) _ q
+        (λ e. absurd (not-ours (h .inRange) (subst (Seen i L) e seen))) (λ e. absurd (not-ours (h .inRange) (own (tie q seen _ e)))) refl)
+    outside (prunes h) = placed
+        (λ q seen. pruned-each (λ c. s .capability q ≡ c) (s .capability) _ q (λ e. absurd (not-both e (not-derived (h .inRange) q seen))) refl)
+    outside (posts o f) = mailed _ _ (unseen (λ a. mailbox (inl (able _ _ _ o))))
+    outside (sends o g h f) = mailed _ _ (unseen (λ a. mailbox (inl (able _ _ _ o))))
+    outside (takes o) = mailed _ _ (unseen (λ a. mailbox (inr (able _ _ _ o))))
+    outside (gets o h f) =
+        let v = mailed noMessage nothing (unseen (λ a. mailbox (inr (able _ _ _ o)))) in
+        record {
+          capability = set-each (λ q c. Seen i L q → s .capability q ≡ c) (v .capability) (λ seen. absurd (not-ours (f .inRange) seen));
+          word = λ f h w. refl;
+          bell = λ b h. refl;
+          message = v .message;
+        }

@@ -72,6 +72,16 @@ pub record Some (L : ℕ → Bool) (R : ℕ → Type 0) : Type 0 where
   pub inside : L domain ≡ true
   pub does : R domain
 
+-- frame f, bell b and mailbox m as some domain in L could see them
+abbrev pub Frame : Image → (ℕ → Bool) → ℕ → Type 0
+Frame i L f = Some L (Reader i FRAME f)
+
+abbrev pub Bell : Image → (ℕ → Bool) → ℕ → Type 0
+Bell i L b = Some L (Reader i BELL b)
+
+abbrev pub Mailbox : Image → (ℕ → Bool) → ℕ → Type 0
+Mailbox i L m = Some L (User i MAILBOX m)
+
 -- place p is a slot of a domain in L
 pub record Ours (L : ℕ → Bool) (p : ℕ) : Type 0 where
   pub inRange : p < allSlots
@@ -80,14 +90,14 @@ pub record Ours (L : ℕ → Bool) (p : ℕ) : Type 0 where
 -- L sees place q: a slot of a domain in L, or the room of a mailbox that some domain in L could use
 pub data Seen (i : Image) (L : ℕ → Bool) (q : ℕ) : Type 0 where
   own : Ours L q → Seen i L q
-  mail : {m : ℕ} → q ≡ room m → Some L (User i MAILBOX m) → Seen i L q
+  mail : {m : ℕ} → q ≡ room m → Mailbox i L m → Seen i L q
 
 -- s and t look the same to L
 pub record View (i : Image) (L : ℕ → Bool) (s t : State) : Type 0 where
   pub capability : (q : ℕ) → Seen i L q → s .capability q ≡ t .capability q
-  pub word : (f : ℕ) → Some L (Reader i FRAME f) → (w : ℕ) → s .word f w ≡ t .word f w
-  pub bell : (b : ℕ) → Some L (Reader i BELL b) → s .bell b ≡ t .bell b
-  pub message : (m : ℕ) → Some L (User i MAILBOX m) → s .message m ≡ t .message m
+  pub word : (f : ℕ) → Frame i L f → (w : ℕ) → s .word f w ≡ t .word f w
+  pub bell : (b : ℕ) → Bell i L b → s .bell b ≡ t .bell b
+  pub message : (m : ℕ) → Mailbox i L m → s .message m ≡ t .message m
 
 -- a source number names a slot of a domain in L, or nothing
 abbrev pub Tied : (ℕ → Bool) → ℕ → Type 0
@@ -130,9 +140,9 @@ module _ {i : Image} {L : ℕ → Bool} where
   seen-slot d {x} b r (mail e u) = absurd (omega arith)
 
   -- a room that L sees is of a mailbox that some domain in L could use
-  pub seen-room : {m : ℕ} → Seen i L (room m) → Some L (User i MAILBOX m)
+  pub seen-room : {m : ℕ} → Seen i L (room m) → Mailbox i L m
   seen-room {m} (own o) = let h = o .inRange in absurd (omega arith)
-  seen-room {m} (mail {m = n} e u) = let f : n ≡ m = omega arith in subst (λ k. Some L (User i MAILBOX k)) f u
+  seen-room {m} (mail {m = n} e u) = let f : n ≡ m = omega arith in subst (λ k. Mailbox i L k) f u
 
   -- ---- chains of sources that start in the view never leave it
 
