@@ -5,8 +5,8 @@ use mathlib.Core.Logic.{inl, inr}
 use Prim.Native.Nat.{ℕ, suc, _<_}
 use native.Mathlib.Omega.{arith}
 use Rattle.rules.specs.Sizes.{domainsMost, slots, places}
-use Rattle.rules.specs.State.{State, Places, slot, room, nothing, noMessage, derivedFrom}
-use Rattle.rules.specs.Turn.{derived, copied, set, changed, withMail, withPlaces, apply}
+use Rattle.rules.specs.State.{State, slot, room, nothing, noMessage, derivedFrom}
+use Rattle.rules.specs.Turn.{derived, copied, set, withMail, apply}
 use Rattle.rules.specs.Image.{Image}
 use Rattle.rules.specs.Flow.{Case, Closed, frame, ringing, hearing, mailbox}
 use Rattle.rules.specs.declared.Capability.{Capability}
@@ -14,7 +14,7 @@ use Rattle.rules.specs.declared.Message.{Message}
 use Rattle.rules.specs.declared.Effect.{Effect}
 use Rattle.rules.proofs.Laws.{not-both}
 use Rattle.rules.proofs.Licence.{Owns, Licence, nothing-done, stores, rings, hushes, puts, drops, prunes, posts, sends, takes, gets}
-use Rattle.rules.proofs.View.{set-each, dropped-each, pruned-each, Some, Frame, Bell, Mailbox, Ours, Seen, own, mail, View, Tied, Tie, Able, view-refl, ours-slot, seen-slot, seen-room, comes-not, drawn}
+use Rattle.rules.proofs.View.{Alike, set-each, dropped-each, pruned-each, Some, Frame, Bell, Mailbox, Ours, Seen, own, mail, View, Tied, Tie, Able, view-refl, stored, rung, mailed, placed, ours-slot, seen-slot, seen-room, comes-not, drawn}
 
 untied : {L : ℕ → Bool} → Tied L 0
 untied p e = absurd (omega arith)
@@ -23,7 +23,7 @@ tied-to : {L : ℕ → Bool} {p : ℕ} → Ours L p → Tied L (suc p)
 tied-to {L} {p} o q e = let f : p ≡ q = omega arith in subst (λ k. Ours L k) f o
 
 -- a value set where P does not look
-set-hidden : {A : Type 0} (P : ℕ → Type 0) (f : ℕ → A) (i : ℕ) (v : A) → (P i → ⊥) → (j : ℕ) → P j → f j ≡ set f i v j
+set-hidden : {A : Type 0} (P : ℕ → Type 0) (f : ℕ → A) (i : ℕ) (v : A) → (P i → ⊥) → Alike P f (set f i v)
 set-hidden P f i v hidden = set-each (λ j x. P j → f j ≡ x) (λ j h. refl) (λ h. absurd (hidden h))
 
 -- the tie at one place
@@ -66,55 +66,34 @@ module _ (i : Image) (L : ℕ → Bool) (closed : Closed i L) (s : State) (d : �
     unfolding derivedFrom
     not-derived r q seen = comes-not (s .capability) tie _ (λ o. not-ours r (own o)) places _ (tie q seen)
 
-    placed : {at : Places} → ((q : ℕ) → Seen i L q → s .capability q ≡ at q) → View i L s (withPlaces s at)
-    placed h = record { capability = h; word = λ f h w. refl; bell = λ b h. refl; message = λ m h. refl }
-
-    ringed : {b : ℕ} (n : ℕ) → (Bell i L b → ⊥) → View i L s (changed s (s .capability) (s .word) (set (s .bell) b n) (s .message))
-    ringed {b} n hidden =
-        record {
-          capability = λ q h. refl;
-          word = λ f h w. refl;
-          bell = set-hidden (Bell i L) (s .bell) b n hidden;
-          message = λ m h. refl;
-        }
-
-    mailed : {m : ℕ} (g : Message) (c : Capability) → (Mailbox i L m → ⊥)
+    posted : {m : ℕ} (g : Message) (c : Capability) → (Mailbox i L m → ⊥)
         → View i L s (withMail s (set (s .capability) (room m) c) (set (s .message) m g))
-    mailed {m} g c hidden =
-        record {
-          capability = set-hidden (Seen i L) (s .capability) (room m) c (λ seen. hidden (seen-room seen));
-          word = λ f h w. refl;
-          bell = λ b h. refl;
-          message = set-hidden (Mailbox i L) (s .message) m g hidden;
-        }
+    posted {m} g c hidden =
+        mailed (view-refl s) (set-hidden (Seen i L) (s .capability) (room m) c (λ seen. hidden (seen-room seen)))
+        (set-hidden (Mailbox i L) (s .message) m g hidden)
 
     -- a domain outside L changes nothing of the view
     pub outside : {e : Effect} → Licence s d e → View i L s (apply s e)
     unfolding apply
     outside nothing-done = view-refl s
     outside (stores o w) =
-        record {
-          capability = λ q h. refl;
-          word = λ f h k. ap (λ g. g k) (set-hidden (Frame i L) (s .word) _ _ (unseen (λ a. frame (able _ _ _ o))) f h);
-          bell = λ b h. refl;
-          message = λ m h. refl;
-        }
-    outside (rings o) = ringed _ (unseen (λ a. ringing (able _ _ _ o)))
-    outside (hushes o) = ringed _ (unseen (λ a. hearing (able _ _ _ o)))
-    outside (puts r h f b) = placed (set-hidden (Seen i L) (s .capability) _ _ (not-ours (f .inRange)))
-    outside (drops h) = placed
+        stored (view-refl s)
+        (λ f h k. ap (λ g. g k) (set-hidden (Frame i L) (s .word) _ _ (unseen (λ a. frame (able _ _ _ o))) f h))
+    outside (rings o) = rung (view-refl s) (set-hidden (Bell i L) (s .bell) _ _ (unseen (λ a. ringing (able _ _ _ o))))
+    outside (hushes o) = rung (view-refl s) (set-hidden (Bell i L) (s .bell) _ _ (unseen (λ a. hearing (able _ _ _ o))))
+    outside (puts r h f b) = placed (view-refl s) (set-hidden (Seen i L) (s .capability) _ _ (not-ours (f .inRange)))
+    outside (drops h) =
+        placed (view-refl s)
         (λ q seen. dropped-each (λ c. s .capability q ≡ c) (s .capability) _ q
         (λ e. absurd (not-ours (h .inRange) (subst (Seen i L) e seen))) (λ e. absurd (not-ours (h .inRange) (own (tie q seen _ e)))) refl)
-    outside (prunes h) = placed
-        (λ q seen. pruned-each (λ c. s .capability q ≡ c) (s .capability) _ q (λ e. absurd (not-both e (not-derived (h .inRange) q seen))) refl)
-    outside (posts o f) = mailed _ _ (unseen (λ a. mailbox (inl (able _ _ _ o))))
-    outside (sends o g h f) = mailed _ _ (unseen (λ a. mailbox (inl (able _ _ _ o))))
-    outside (takes o) = mailed _ _ (unseen (λ a. mailbox (inr (able _ _ _ o))))
+    outside (prunes h) =
+        placed (view-refl s)
+        (λ q seen. pruned-each (λ c. s .capability q ≡ c) (s .capability) _ q
+        (λ e. absurd (not-both e (not-derived (h .inRange) q seen))) refl)
+    outside (posts o f) = posted _ _ (unseen (λ a. mailbox (inl (able _ _ _ o))))
+    outside (sends o g h f) = posted _ _ (unseen (λ a. mailbox (inl (able _ _ _ o))))
+    outside (takes o) = posted _ _ (unseen (λ a. mailbox (inr (able _ _ _ o))))
     outside (gets o h f) =
-        let v = mailed noMessage nothing (unseen (λ a. mailbox (inr (able _ _ _ o)))) in
-        record {
-          capability = set-each (λ q c. Seen i L q → s .capability q ≡ c) (v .capability) (λ seen. absurd (not-ours (f .inRange) seen));
-          word = λ f h w. refl;
-          bell = λ b h. refl;
-          message = v .message;
-        }
+        let v = posted noMessage nothing (unseen (λ a. mailbox (inr (able _ _ _ o)))) in
+        mailed (view-refl s)
+        (set-each (λ q c. Seen i L q → s .capability q ≡ c) (v .capability) (λ seen. absurd (not-ours (f .inRange) seen))) (v .message)

@@ -9,10 +9,11 @@ use lib.Dec.{eqb}
 use borrow.Author.Tests.{eqb-true, eqb-false, eq-eqb, ne-eqb}
 use Rattle.rules.specs.Sizes.{domainsMost, slots, allSlots}
 use Rattle.rules.specs.State.{State, Places, FRAME, MAILBOX, BELL, slot, room, nothing, comesTo, derivedFrom}
-use Rattle.rules.specs.Turn.{held, set, dropped, pruned, advance}
+use Rattle.rules.specs.Turn.{held, set, dropped, pruned, changed, withMail, withPlaces, advance}
 use Rattle.rules.specs.Image.{Image}
 use Rattle.rules.specs.Flow.{Could, Reader, User, Case, Direct, Flow, Closed, direct}
 use Rattle.rules.specs.declared.Capability.{Capability}
+use Rattle.rules.specs.declared.Message.{Message}
 use Rattle.rules.proofs.Laws.{decided-by, not-both}
 use Rattle.rules.proofs.Licence.{Owns}
 
@@ -37,6 +38,10 @@ set-both R {f} {g} {i} {v} {w} old new j = by (eqb j i) refl
 pub set-each : {A : Type 0} (Q : ℕ → A → Type 0) {f : ℕ → A} {i : ℕ} {v : A} → ((j : ℕ) → Q j (f j)) → Q i v
     → (j : ℕ) → Q j (set f i v j)
 set-each Q {f} {i} {v} old new = set-both (λ j x y. Q j x) {g = f} {w = v} old new
+
+-- f and g have the same values wherever P looks
+abbrev pub Alike : {A : Type 0} → (ℕ → Type 0) → (ℕ → A) → (ℕ → A) → Type 0
+Alike P f g = (j : ℕ) → P j → f j ≡ g j
 
 -- c with source number x
 abbrev pub resourced : Capability → ℕ → Capability
@@ -94,10 +99,10 @@ pub data Seen (i : Image) (L : ℕ → Bool) (q : ℕ) : Type 0 where
 
 -- s and t look the same to L
 pub record View (i : Image) (L : ℕ → Bool) (s t : State) : Type 0 where
-  pub capability : (q : ℕ) → Seen i L q → s .capability q ≡ t .capability q
+  pub capability : Alike (Seen i L) (s .capability) (t .capability)
   pub word : (f : ℕ) → Frame i L f → (w : ℕ) → s .word f w ≡ t .word f w
-  pub bell : (b : ℕ) → Bell i L b → s .bell b ≡ t .bell b
-  pub message : (m : ℕ) → Mailbox i L m → s .message m ≡ t .message m
+  pub bell : Alike (Bell i L) (s .bell) (t .bell)
+  pub message : Alike (Mailbox i L) (s .message) (t .message)
 
 -- a source number names a slot of a domain in L, or nothing
 abbrev pub Tied : (ℕ → Bool) → ℕ → Type 0
@@ -129,10 +134,27 @@ module _ {i : Image} {L : ℕ → Bool} where
         message = λ m h. sym (b .message m h) ∙ (a .message m h ∙ c .message m h);
       }
 
-  -- the position is not in the view: it goes by the table alone
-  pub view-advanced : {s t : State} → View i L s t → View i L (advance s) (advance t)
-  unfolding advance
-  view-advanced v = record { capability = v .capability; word = v .word; bell = v .bell; message = v .message }
+  -- states that look the same, one part of each changed
+  module _ {s t : State} (v : View i L s t) where
+    pub stored : {f g : ℕ → ℕ → ℕ} → ((j : ℕ) → Frame i L j → (w : ℕ) → f j w ≡ g j w)
+        → View i L (changed s (s .capability) f (s .bell) (s .message)) (changed t (t .capability) g (t .bell) (t .message))
+    stored h = record { capability = v .capability; word = h; bell = v .bell; message = v .message }
+
+    pub rung : {f g : ℕ → ℕ} → Alike (Bell i L) f g
+        → View i L (changed s (s .capability) (s .word) f (s .message)) (changed t (t .capability) (t .word) g (t .message))
+    rung h = record { capability = v .capability; word = v .word; bell = h; message = v .message }
+
+    pub mailed : {at at′ : Places} {f g : ℕ → Message} → Alike (Seen i L) at at′ → Alike (Mailbox i L) f g
+        → View i L (withMail s at f) (withMail t at′ g)
+    mailed h k = record { capability = h; word = v .word; bell = v .bell; message = k }
+
+    pub placed : {at at′ : Places} → Alike (Seen i L) at at′ → View i L (withPlaces s at) (withPlaces t at′)
+    placed h = mailed h (v .message)
+
+    -- the position is not in the view: it goes by the table alone
+    pub advanced : View i L (advance s) (advance t)
+    unfolding advance
+    advanced = record { capability = v .capability; word = v .word; bell = v .bell; message = v .message }
 
   -- a slot that L sees is of a domain in L
   pub seen-slot : (d : ℕ) {x : ℕ} → d < domainsMost → x < slots → Seen i L (slot d x) → L d ≡ true
@@ -147,7 +169,7 @@ module _ {i : Image} {L : ℕ → Bool} where
   -- ---- chains of sources that start in the view never leave it
 
   -- the test of REVOKE at places that L sees depends on the view alone
-  pub comes-same : (s t : Places) → ((q : ℕ) → Seen i L q → s q ≡ t q) → Tie i L s → (n a x : ℕ) → Tied L x
+  pub comes-same : (s t : Places) → Alike (Seen i L) s t → Tie i L s → (n a x : ℕ) → Tied L x
       → comesTo n s a x ≡ comesTo n t a x
   unfolding comesTo
   comes-same s t v tie zero a x h = refl
