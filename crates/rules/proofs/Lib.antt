@@ -3,4 +3,6 @@ pub mod Licence
 pub mod View
 pub mod Outside
 pub mod Inside
+pub mod Checked
+pub mod Table
 pub mod Worked

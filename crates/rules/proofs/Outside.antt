@@ -16,10 +16,10 @@ use Rattle.rules.proofs.Laws.{not-both}
 use Rattle.rules.proofs.Licence.{Owns, Licence, nothing-done, stores, rings, hushes, puts, drops, prunes, posts, sends, takes, gets}
 use Rattle.rules.proofs.View.{Alike, set-each, dropped-each, pruned-each, Some, Frame, Bell, Mailbox, Ours, Seen, own, mail, View, Tied, Tie, Able, view-refl, stored, rung, mailed, placed, ours-slot, seen-slot, seen-room, comes-not, drawn}
 
-untied : {L : ℕ → Bool} → Tied L 0
+pub untied : {L : ℕ → Bool} → Tied L 0
 untied p e = absurd (omega arith)
 
-tied-to : {L : ℕ → Bool} {p : ℕ} → Ours L p → Tied L (suc p)
+pub tied-to : {L : ℕ → Bool} {p : ℕ} → Ours L p → Tied L (suc p)
 tied-to {L} {p} o q e = let f : p ≡ q = omega arith in subst (λ k. Ours L k) f o
 
 -- a value set where P does not look
