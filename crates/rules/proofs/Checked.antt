@@ -1,17 +1,17 @@
 -- What the checks of the reader leave of an accepted image, as far as the table of turns and the places of entries go.
 -- Assumes nothing.
-use mathlib.Core.Path.{_≡_, refl, sym, ap, _∙_, subst}
-use mathlib.Core.Bool.{Bool, true, false, _&&_, _||_, false≢true}
+use mathlib.Core.Path.{_≡_, refl, ap, _∙_, subst}
+use mathlib.Core.Bool.{Bool, true, false, _||_, false≢true}
 use mathlib.Core.List.{List, [], _∷_, List·Memᴰ, List·Memᴰ·head, List·Memᴰ·tail}
 use mathlib.Core.Logic.{_⊎_, inl, inr}
-use Prim.Native.Nat.{ℕ, zero, suc, _+_, _*_, _≤_, _<_}
+use Prim.Native.Nat.{ℕ, zero, suc, _≤_, _<_}
 use native.Mathlib.Omega.{arith}
 use native.Mathlib.Nat.{le-trans}
-use lib.Dec.{eqb, leb, ltb}
+use lib.Dec.{ltb}
 use lib.ListN.{length, getD, length-take, length-drop}
 use borrow.Author.Tests.{ltb-true, leb-true, eqb-true}
 use Rattle.rules.specs.Sizes.{domainsMost, slots}
-use Rattle.rules.specs.Image.{Entry, imageOf, sizeD, sizeT, sizeC, headerBytes, padded, entriesAt, lengthFor, tableOf, sourceless, all, some, between, sizesRight, lengthRight, turnsRight, entryRight, defines, sourceRight, formRefusal, refusalOf}
+use Rattle.rules.specs.Image.{Entry, imageOf, sizeD, sizeT, sizeC, padded, entriesAt, lengthFor, tableOf, sourceless, all, some, between, sizesRight, lengthRight, turnsRight, entryRight, defines, sourceRight, formRefusal, refusalOf}
 use Rattle.rules.proofs.Laws.{both, either, passes, not-both}
 
 -- ---- a test of each, of some

@@ -1,14 +1,14 @@
 -- A domain in L, at two states that look the same to L, comes to the same decision and leaves states that look the same to L.
 -- The checks of document 01, section 3, are walked once more. Assumes nothing.
-use mathlib.Core.Path.{_≡_, refl, sym, ap, ap₂, _∙_}
+use mathlib.Core.Path.{_≡_, refl, ap, ap₂, _∙_}
 use mathlib.Core.Bool.{Bool, true, false, cond, not, _&&_, _||_}
 use mathlib.Core.Logic.{inl, inr}
 use Prim.Native.Nat.{ℕ, zero, suc, _<_}
-use lib.Dec.{eqb, leb, ltb}
+use lib.Dec.{eqb, ltb}
 use lib.Bits.{bitOr}
 use borrow.Author.Tests.{ltb-true, eqb-true}
-use Rattle.rules.specs.Sizes.{domainsMost, slots, frameWords, badgeMost, places}
-use Rattle.rules.specs.State.{State, Places, FRAME, MAILBOX, BELL, READ, WRITE, GRANT, within, slot, room, nothing, noMessage, comesTo, derivedFrom}
+use Rattle.rules.specs.Sizes.{domainsMost, slots, places}
+use Rattle.rules.specs.State.{State, FRAME, MAILBOX, BELL, READ, WRITE, GRANT, within, slot, room, nothing, noMessage, comesTo, derivedFrom}
 use Rattle.rules.specs.Turn.{_then_else_, held, holds, full, anySlot, slotFor, words, conclude, load, store, derived, derive, delete, revoke, ring, hear, copied, goes, send, moves, receive, look, Name, IDLE, LOAD, STORE, DERIVE, DELETE, REVOKE, RING, HEAR, SEND, RECEIVE, LOOK, unknown, named, decided, decide, set, dropped, pruned, withMail, apply}
 use Rattle.rules.specs.Image.{Image}
 use Rattle.rules.specs.Flow.{User}
@@ -17,7 +17,7 @@ use Rattle.rules.specs.declared.Message.{Message}
 use Rattle.rules.specs.declared.Operation.{Operation}
 use Rattle.rules.specs.declared.Answer.{Answer}
 use Rattle.rules.specs.declared.Effect.{Effect}
-use Rattle.rules.specs.declared.Effect.the-variants.{Nothing, Store, Ring, Hush, Put, Drop, Prune, Post, Take, Move}
+use Rattle.rules.specs.declared.Effect.the-variants.{Store, Ring, Hush, Put, Post, Take, Move}
 use Rattle.rules.proofs.Laws.{both, passes}
 use Rattle.rules.proofs.Licence.{Owns, Licence, nothing-done, stores, rings, hushes, puts, drops, prunes, posts, sends, takes, gets, has, owns}
 use Rattle.rules.proofs.View.{Alike, cond-same, set-both, resourced, Some, Frame, Bell, Mailbox, Seen, own, mail, View, Tie, Able, stored, rung, mailed, placed, ours-slot, comes-same}
@@ -98,9 +98,11 @@ module _ (i : Image) (L : ℕ → Bool) (s t : State) (d : ℕ) (below : d < dom
       let o = owned (passes _ _ 1 (passes _ _ 4 (passes _ _ 2 e .0) .0) .0) in
       ap (λ g. not (full g)) (same-message (o .has .inRange) (inl (able _ _ _ o)))))
       (λ e.
-      let o = owned (passes _ _ 1 (passes _ _ 4 (passes _ _ 2 (passes _ _ 7 e .0) .0) .0) .0) in
-      (ap₂ (λ k u. Post (k .object) (record { full = 1; badge = k .badge; w0 = w0; w1 = w1; w2 = w2; w3 = w3 }) u)
-      (same-slot (o .has .inRange)) (cond-same (goes c) nothing (λ g. ap (λ k. copied k (slot d c)) (same-slot (ltb-true c slots g)))), refl))
+      let o = owned (passes _ _ 1 (passes _ _ 4 (passes _ _ 2 (passes _ _ 7 e .0) .0) .0) .0) in (
+        ap₂ (λ k u. Post (k .object) (record { full = 1; badge = k .badge; w0 = w0; w1 = w1; w2 = w2; w3 = w3 }) u)
+            (same-slot (o .has .inRange)) (cond-same (goes c) nothing (λ g. ap (λ k. copied k (slot d c)) (same-slot (ltb-true c slots g)))),
+        refl,
+      ))
     where
       owned : slotFor s d x MAILBOX WRITE ≡ 0 → Owns s d x MAILBOX WRITE
       owned e = owns s d x _ _ e
@@ -112,14 +114,17 @@ module _ (i : Image) (L : ℕ → Bool) (s t : State) (d : ℕ) (below : d < dom
       (then-same 9 (then-same 2 (same-for x MAILBOX READ) (λ e. refl))
       (λ e. ap full (message (owned (passes _ _ 1 e .0)))))
       (λ e.
-      let o = owned (passes _ _ 1 (passes _ _ 8 e .0) .0) in
-      (ap₂ (λ b k. cond b (Move (k .object) (slot d y)) (Take (k .object))) (moving o) (same-slot (o .has .inRange)),
-      ap₂ (λ b g. words (g .badge) (g .w0) (g .w1) (g .w2) (g .w3) (cond b 1 0)) (moving o) (message o)))
+      let o = owned (passes _ _ 1 (passes _ _ 8 e .0) .0) in (
+        ap₂ (λ b k. cond b (Move (k .object) (slot d y)) (Take (k .object))) (moving o) (same-slot (o .has .inRange)),
+        ap₂ (λ b g. words (g .badge) (g .w0) (g .w1) (g .w2) (g .w3) (cond b 1 0)) (moving o) (message o),
+      ))
     where
       owned : slotFor s d x MAILBOX READ ≡ 0 → Owns s d x MAILBOX READ
       owned e = owns s d x _ _ e
+
       message : Owns s d x MAILBOX READ → s .message (held s d x .object) ≡ t .message (held t d x .object)
       message o = same-message (o .has .inRange) (inr (able _ _ _ o))
+
       moving : Owns s d x MAILBOX READ → moves s d (held s d x .object) y ≡ moves t d (held t d x .object) y
       moving o =
           and-same
@@ -134,10 +139,11 @@ module _ (i : Image) (L : ℕ → Bool) (s t : State) (d : ℕ) (below : d < dom
   same-decided LOAD o =
       conclude-same (then-same 6 (same-for _ FRAME READ) (λ e. refl))
       (λ e.
-      let u = owns s d _ _ _ (passes _ _ 5 e .0) in
-      (refl,
-      ap (λ v. words v 0 0 0 0 0)
-      (same-at (λ f. s .word f (o .second)) (λ f. t .word f (o .second)) (u .has .inRange) (view .word _ (ours (able _ _ _ u)) (o .second)))))
+      let u = owns s d _ _ _ (passes _ _ 5 e .0) in (
+        refl,
+        ap (λ v. words v 0 0 0 0 0)
+            (same-at (λ f. s .word f (o .second)) (λ f. t .word f (o .second)) (u .has .inRange) (view .word _ (ours (able _ _ _ u)) (o .second))),
+      ))
   same-decided STORE o =
       conclude-same (then-same 6 (same-for _ FRAME WRITE) (λ e. refl))
       (λ e.
@@ -160,9 +166,10 @@ module _ (i : Image) (L : ℕ → Bool) (s t : State) (d : ℕ) (below : d < dom
   same-decided HEAR o =
       conclude-same (same-for _ BELL READ)
       (λ e.
-      let u = owns s d _ _ _ e in
-      (ap (λ c. Hush (c .object)) (same-slot (u .has .inRange)),
-      ap (λ v. words v 0 0 0 0 0) (same-at (s .bell) (t .bell) (u .has .inRange) (view .bell _ (ours (able _ _ _ u))))))
+      let u = owns s d _ _ _ e in (
+        ap (λ c. Hush (c .object)) (same-slot (u .has .inRange)),
+        ap (λ v. words v 0 0 0 0 0) (same-at (s .bell) (t .bell) (u .has .inRange) (view .bell _ (ours (able _ _ _ u)))),
+      ))
   same-decided SEND o = same-send _ _ _ _ _ _
   same-decided RECEIVE o = same-receive _ _
   same-decided LOOK o =
@@ -206,7 +213,8 @@ module _ (i : Image) (L : ℕ → Bool) (s t : State) (d : ℕ) (below : d < dom
     inside-kept (stores o w) =
         stored view
         (set-both (λ f (g h : ℕ → ℕ). Frame i L f → (k : ℕ) → g k ≡ h k) (view .word) (λ seen. set-both (λ k m n. m ≡ n) (view .word _ seen) refl))
-    inside-kept (rings o) = rung view (set-both (Same (Bell i L)) (view .bell) (λ seen. ap (λ n. bitOr n _) (view .bell _ seen)))
+    inside-kept (rings {x = x} o) =
+        rung view (set-both (Same (Bell i L)) (view .bell) (λ seen. ap (λ n. bitOr n (held s d x .badge)) (view .bell _ seen)))
     inside-kept (hushes o) = rung view (set-both (Same (Bell i L)) (view .bell) (λ seen. refl))
     inside-kept (puts r h f b) = placed view (set-both (Same (Seen i L)) (view .capability) (λ seen. refl))
     inside-kept (drops h) = placed view (same-dropped _)

@@ -5,4 +5,5 @@ pub mod Outside
 pub mod Inside
 pub mod Checked
 pub mod Table
+pub mod Promise
 pub mod Worked

@@ -1,6 +1,6 @@
 -- Each licensed effect keeps the tie of sources to L; that of a domain outside L changes nothing that L sees. Assumes nothing.
-use mathlib.Core.Path.{_≡_, refl, sym, ap, _∙_, subst}
-use mathlib.Core.Bool.{Bool, true, false, cond}
+use mathlib.Core.Path.{_≡_, refl, ap, subst}
+use mathlib.Core.Bool.{Bool, false}
 use mathlib.Core.Logic.{inl, inr}
 use Prim.Native.Nat.{ℕ, suc, _<_}
 use native.Mathlib.Omega.{arith}
@@ -13,7 +13,7 @@ use Rattle.rules.specs.declared.Capability.{Capability}
 use Rattle.rules.specs.declared.Message.{Message}
 use Rattle.rules.specs.declared.Effect.{Effect}
 use Rattle.rules.proofs.Laws.{not-both}
-use Rattle.rules.proofs.Licence.{Owns, Licence, nothing-done, stores, rings, hushes, puts, drops, prunes, posts, sends, takes, gets}
+use Rattle.rules.proofs.Licence.{Licence, nothing-done, stores, rings, hushes, puts, drops, prunes, posts, sends, takes, gets}
 use Rattle.rules.proofs.View.{Alike, set-each, dropped-each, pruned-each, Some, Frame, Bell, Mailbox, Ours, Seen, own, mail, View, Tied, Tie, Able, view-refl, stored, rung, mailed, placed, ours-slot, seen-slot, seen-room, comes-not, drawn}
 
 pub untied : {L : ℕ → Bool} → Tied L 0

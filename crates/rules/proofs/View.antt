@@ -2,19 +2,17 @@
 -- slot of a domain of L. Assumes nothing.
 use mathlib.Core.Path.{_≡_, refl, sym, ap, ap₂, _∙_, subst}
 use mathlib.Core.Bool.{Bool, true, false, cond, _||_}
-use mathlib.Core.Logic.{_⊎_, inl, inr}
 use Prim.Native.Nat.{ℕ, zero, suc, _/_, _<_}
 use native.Mathlib.Omega.{arith}
 use lib.Dec.{eqb}
-use borrow.Author.Tests.{eqb-true, eqb-false, eq-eqb, ne-eqb}
+use borrow.Author.Tests.{eqb-true, eqb-false, ne-eqb}
 use Rattle.rules.specs.Sizes.{domainsMost, slots, allSlots}
 use Rattle.rules.specs.State.{State, Places, FRAME, MAILBOX, BELL, slot, room, nothing, comesTo, derivedFrom}
 use Rattle.rules.specs.Turn.{held, set, dropped, pruned, changed, withMail, withPlaces, advance}
 use Rattle.rules.specs.Image.{Image}
-use Rattle.rules.specs.Flow.{Could, Reader, User, Case, Direct, Flow, Closed, direct}
+use Rattle.rules.specs.Flow.{Could, Reader, User, Case, Closed, direct}
 use Rattle.rules.specs.declared.Capability.{Capability}
 use Rattle.rules.specs.declared.Message.{Message}
-use Rattle.rules.proofs.Laws.{decided-by, not-both}
 use Rattle.rules.proofs.Licence.{Owns}
 
 -- ---- what an update does to each value
@@ -56,6 +54,7 @@ dropped-each Q at p q gone child other = by (eqb q p) refl
     kept : (b : Bool) → eqb (at q .source) (suc p) ≡ b → Q (resourced (at q) (cond b (at p .source) (at q .source)))
     kept true e = child (eqb-true _ _ e)
     kept false e = other
+
     by : (b : Bool) → eqb q p ≡ b → Q (cond b nothing (resourced (at q) (cond (eqb (at q .source) (suc p)) (at p .source) (at q .source))))
     by true e = gone (eqb-true _ _ e)
     by false e = kept _ refl
