@@ -21,20 +21,15 @@ unfolding all
 all-of f h (List·Memᴰ·head {x = y} {xs = ys} e) = ap f e ∙ both (f y) (all f ys) h .0
 all-of f h (List·Memᴰ·tail {x = y} {xs = ys} m) = all-of f (both (f y) (all f ys) h .1) m
 
--- the one that passed
-pub record Found {A : Type 0} (f : A → Bool) (xs : List A) : Type 0 where
-  pub it : A
-  pub among : List·Memᴰ it xs
-  pub passed : f it ≡ true
-
-pub some-of : {A : Type 0} (f : A → Bool) (xs : List A) → some f xs ≡ true → Found f xs
+pub some-of : {A : Type 0} (f : A → Bool) (xs : List A) → some f xs ≡ true → (x : A) × List·Memᴰ x xs × (f x ≡ true)
 unfolding some
 some-of f [] h = absurd (false≢true h)
-some-of f (x ∷ xs) h = by (either (f x) (some f xs) h) (some-of f xs)
+some-of {A} f (x ∷ xs) h = by (either (f x) (some f xs) h) (some-of f xs)
   where
-    by : (f x ≡ true) ⊎ (some f xs ≡ true) → (some f xs ≡ true → Found f xs) → Found f (x ∷ xs)
-    by (inl p) later = record { it = x; among = List·Memᴰ·head refl; passed = p }
-    by (inr p) later = let r = later p in record { it = r .it; among = List·Memᴰ·tail (r .among); passed = r .passed }
+    by : (f x ≡ true) ⊎ (some f xs ≡ true) → (some f xs ≡ true → (y : A) × List·Memᴰ y xs × (f y ≡ true))
+        → (y : A) × List·Memᴰ y (x ∷ xs) × (f y ≡ true)
+    by (inl p) later = (x, List·Memᴰ·head refl, p)
+    by (inr p) later = let (y, m, q) = later p in (y, List·Memᴰ·tail m, q)
 
 below-of : (n : ℕ) → 0 < n → (xs : List ℕ) → all (λ d. ltb d n) xs ≡ true → (k : ℕ) → getD xs k 0 < n
 unfolding all
@@ -101,7 +96,7 @@ module _ (b : List ℕ) (c : Checks b) where
       → (e .sourceDomain < domainsMost) × (e .sourceSlot < slots)
   unfolding sourceRight defines
   source-slot {e} m h =
-      let f = some-of _ _ (both _ _ (both _ _ (otherwise _ _ (all-of _ (c .sources) m) h) .0) .0) in
-      let (d, x) = both _ _ (f .passed) in
-      let (below, inRange) = entry-slot (f .among) in
+      let (f, n, p) = some-of _ _ (both _ _ (both _ _ (otherwise _ _ (all-of _ (c .sources) m) h) .0) .0) in
+      let (d, x) = both _ _ p in
+      let (below, inRange) = entry-slot n in
       (subst (λ n. n < domainsMost) (eqb-true _ _ d) below, subst (λ n. n < slots) (eqb-true _ _ x) inRange)

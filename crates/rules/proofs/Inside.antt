@@ -18,44 +18,49 @@ use Rattle.rules.specs.declared.Operation.{Operation}
 use Rattle.rules.specs.declared.Answer.{Answer}
 use Rattle.rules.specs.declared.Effect.{Effect}
 use Rattle.rules.specs.declared.Effect.the-variants.{Store, Ring, Hush, Put, Post, Take, Move}
-use Rattle.rules.proofs.Laws.{both, passes}
-use Rattle.rules.proofs.Licence.{Owns, Licence, nothing-done, stores, rings, hushes, puts, drops, prunes, posts, sends, takes, gets, has, owns}
-use Rattle.rules.proofs.View.{Alike, cond-same, set-both, resourced, Some, Frame, Bell, Mailbox, Seen, own, mail, View, Tie, Able, stored, rung, mailed, placed, ours-slot, comes-same}
+use Rattle.rules.proofs.Laws.{passes}
+use Rattle.rules.proofs.Licence.{Has, Owns, Licence, nothing-done, stores, rings, hushes, puts, drops, prunes, posts, sends, takes, gets, has, owns}
+use Rattle.rules.proofs.View.{Alike, set-both, resourced, Some, Frame, Bell, Mailbox, Seen, own, mail, View, Tie, Able, stored, rung, mailed, placed, ours-slot, comes-same}
 
 -- ---- checks that agree
 
+-- two rows of checks that give the same refusal, and what is known where they give none
+record Row (F : Type 0) (e e′ : ℕ) : Type 0 where
+  pub same : e ≡ e′
+  pub known : e ≡ 0 → F
+
 -- one more check, looked at only where no earlier one refused
-then-same : {e e′ : ℕ} {b b′ : Bool} (n : ℕ) → e ≡ e′ → (e ≡ 0 → b ≡ b′) → (e then b else n) ≡ (e′ then b′ else n)
+also : {F : Type 0} {e e′ : ℕ} {b b′ : Bool} (n : ℕ) → Row F e e′ → (F → b ≡ b′)
+    → Row (F × (b ≡ true)) (e then b else suc n) (e′ then b′ else suc n)
 unfolding _then_else_
-then-same {e} {b} {b′} n p h = by e h ∙ ap (λ k. k then b′ else n) p
+also {F} {e} {b} {b′} n r h =
+    record {
+      same = by e (λ z. h (r .known z)) ∙ ap (λ k. k then b′ else suc n) (r .same);
+      known = λ z. let (p, q) = passes e b n z in (r .known p, q);
+    }
   where
-    by : (e : ℕ) → (e ≡ 0 → b ≡ b′) → (e then b else n) ≡ (e then b′ else n)
-    by zero h = ap (λ c. zero then c else n) (h refl)
+    by : (e : ℕ) → (e ≡ 0 → b ≡ b′) → (e then b else suc n) ≡ (e then b′ else suc n)
+    by zero h = ap (λ c. zero then c else suc n) (h refl)
     by (suc e) h = refl
 
 -- the same refusal, or where there is none the same effect and answer
-conclude-same : {e e′ : ℕ} {f f′ : Effect} {a a′ : Answer} → e ≡ e′ → (e ≡ 0 → (f ≡ f′) × (a ≡ a′)) → conclude e f a ≡ conclude e′ f′ a′
+conclude-same : {F : Type 0} {e e′ : ℕ} {f f′ : Effect} {a a′ : Answer} → Row F e e′ → (F → (f ≡ f′) × (a ≡ a′))
+    → conclude e f a ≡ conclude e′ f′ a′
 unfolding conclude
-conclude-same {e} {f} {f′} {a} {a′} p h = by e h ∙ ap (λ k. conclude k f′ a′) p
+conclude-same {e} {f} {f′} {a} {a′} r h = by e (λ z. h (r .known z)) ∙ ap (λ k. conclude k f′ a′) (r .same)
   where
     by : (e : ℕ) → (e ≡ 0 → (f ≡ f′) × (a ≡ a′)) → conclude e f a ≡ conclude e f′ a′
-    by zero h = ap₂ (conclude zero) (h refl .0) (h refl .1)
+    by zero h = let (p, q) = h refl in ap₂ (conclude zero) p q
     by (suc e) h = refl
+
+-- two branches that agree where the test passes
+cond-same : {A : Type 0} (b : Bool) {x y : A} (z : A) → (b ≡ true → x ≡ y) → cond b x z ≡ cond b y z
+cond-same true z h = h refl
+cond-same false z h = refl
 
 -- the same value at j, where P looks
 abbrev Same : {A : Type 0} → (ℕ → Type 0) → ℕ → A → A → Type 0
 Same P j x y = P j → x ≡ y
-
-or-same : (g : Bool) {b b′ : Bool} → (g ≡ true → b ≡ b′) → (not g || b) ≡ (not g || b′)
-or-same true h = h refl
-or-same false h = refl
-
-and-same : {a a′ b b′ : Bool} → a ≡ a′ → (a ≡ true → b ≡ b′) → (a && b) ≡ (a′ && b′)
-and-same {a} {b} {b′} p h = by a h ∙ ap (λ c. c && b′) p
-  where
-    by : (a : Bool) → (a ≡ true → b ≡ b′) → (a && b) ≡ (a && b′)
-    by true h = h refl
-    by false h = refl
 
 module _ (i : Image) (L : ℕ → Bool) (s t : State) (d : ℕ) (below : d < domainsMost) (able : Able i s d) (view : View i L s t)
     (inside : L d ≡ true) where
@@ -66,115 +71,88 @@ module _ (i : Image) (L : ℕ → Bool) (s t : State) (d : ℕ) (below : d < dom
   same-slot : {x : ℕ} → x < slots → held s d x ≡ held t d x
   same-slot r = view .capability _ (own (ours-slot below r inside))
 
-  same-any : (x : ℕ) → anySlot s d x ≡ anySlot t d x
-  unfolding anySlot
-  same-any x = then-same 3 refl (λ e. ap holds (same-slot (ltb-true x slots (passes 0 _ 1 e .1))))
+  -- what looks at slot x only where x is a slot
+  same-where : {A : Type 0} (F : Bool → Capability → A) (x : ℕ) → F false (held s d x) ≡ F false (held t d x)
+      → F (goes x) (held s d x) ≡ F (goes x) (held t d x)
+  same-where {A} F x h = by (goes x) refl
+    where
+      by : (g : Bool) → goes x ≡ g → F g (held s d x) ≡ F g (held t d x)
+      by true e = ap (F true) (same-slot (ltb-true x slots e))
+      by false e = h
 
-  same-for : (x k r : ℕ) → slotFor s d x k r ≡ slotFor t d x k r
+  same-any : (x : ℕ) → Row (Has s d x) (anySlot s d x) (anySlot t d x)
+  unfolding anySlot _then_else_
+  same-any x = record { same = same-where (λ g c. 0 then g else 2 then holds c else 3) x refl; known = has s d x }
+
+  same-for : (x k r : ℕ) → Row (Owns s d x k r) (slotFor s d x k r) (slotFor t d x k r)
   unfolding slotFor
   same-for x k r =
-      then-same 5 (then-same 4 (same-any x) (λ e. ap (λ c. eqb (c .kind) k) (same-slot (has s d x e .inRange))))
-      (λ e. ap (λ c. within r (c .rights)) (same-slot (has s d x (passes _ _ 3 e .0) .inRange)))
+      let kind = also 3 (same-any x) (λ h. ap (λ c. eqb (c .kind) k) (same-slot (h .inRange))) in
+      record { same = also 4 kind (λ h. ap (λ c. within r (c .rights)) (same-slot (h .0 .inRange))) .same; known = owns s d x k r }
 
-  -- what stands at the object of slot x
-  same-at : {A : Type 0} (f g : ℕ → A) {x : ℕ} → x < slots → f (held s d x .object) ≡ g (held s d x .object)
-      → f (held s d x .object) ≡ g (held t d x .object)
-  same-at f g r h = h ∙ ap (λ c. g (c .object)) (same-slot r)
+  module _ {x k r : ℕ} (o : Owns s d x k r) where
+    same-owned : held s d x ≡ held t d x
+    same-owned = same-slot (o .has .inRange)
 
-  same-message : {x : ℕ} → x < slots → User i MAILBOX (held s d x .object) d
-      → s .message (held s d x .object) ≡ t .message (held t d x .object)
-  same-message r u = same-at (s .message) (t .message) r (view .message _ (ours u))
+    -- what stands at the object of slot x
+    same-at : {A : Type 0} (f g : ℕ → A) → f (held s d x .object) ≡ g (held s d x .object) → f (held s d x .object) ≡ g (held t d x .object)
+    same-at f g h = h ∙ ap (λ c. g (c .object)) same-owned
 
-  same-send : (x c w0 w1 w2 w3 : ℕ) → send s d x c w0 w1 w2 w3 ≡ send t d x c w0 w1 w2 w3
-  unfolding send
-  same-send x c w0 w1 w2 w3 =
-      conclude-same
-      (then-same 8
-      (then-same 3
-      (then-same 5 (then-same 2 (same-for x MAILBOX WRITE) (λ e. refl))
-      (λ e. ap (λ k. not (goes c) || within GRANT (k .rights)) (same-slot (owned (passes _ _ 1 e .0) .has .inRange))))
-      (λ e. or-same (goes c) (λ g. ap holds (same-slot (ltb-true c slots g)))))
-      (λ e.
-      let o = owned (passes _ _ 1 (passes _ _ 4 (passes _ _ 2 e .0) .0) .0) in
-      ap (λ g. not (full g)) (same-message (o .has .inRange) (inl (able _ _ _ o)))))
-      (λ e.
-      let o = owned (passes _ _ 1 (passes _ _ 4 (passes _ _ 2 (passes _ _ 7 e .0) .0) .0) .0) in (
-        ap₂ (λ k u. Post (k .object) (record { full = 1; badge = k .badge; w0 = w0; w1 = w1; w2 = w2; w3 = w3 }) u)
-            (same-slot (o .has .inRange)) (cond-same (goes c) nothing (λ g. ap (λ k. copied k (slot d c)) (same-slot (ltb-true c slots g)))),
-        refl,
-      ))
+    same-message : User i MAILBOX (held s d x .object) d → s .message (held s d x .object) ≡ t .message (held t d x .object)
+    same-message u = same-at (s .message) (t .message) (view .message _ (ours u))
+
+  same-moves : {x : ℕ} → Owns s d x MAILBOX READ → (y : ℕ) → moves s d (held s d x .object) y ≡ moves t d (held t d x .object) y
+  unfolding moves
+  same-moves {x} o y =
+      by (holds (s .capability (room (held s d x .object))))
+      ∙ ap (λ c. holds c && ltb y slots && not (holds (held t d y)))
+      (same-at o (λ m. s .capability (room m)) (λ m. t .capability (room m)) (view .capability _ (mail refl (ours (inr (able _ _ _ o))))))
     where
-      owned : slotFor s d x MAILBOX WRITE ≡ 0 → Owns s d x MAILBOX WRITE
-      owned e = owns s d x _ _ e
-
-  same-receive : (x y : ℕ) → receive s d x y ≡ receive t d x y
-  unfolding receive moves
-  same-receive x y =
-      conclude-same
-      (then-same 9 (then-same 2 (same-for x MAILBOX READ) (λ e. refl))
-      (λ e. ap full (message (owned (passes _ _ 1 e .0)))))
-      (λ e.
-      let o = owned (passes _ _ 1 (passes _ _ 8 e .0) .0) in (
-        ap₂ (λ b k. cond b (Move (k .object) (slot d y)) (Take (k .object))) (moving o) (same-slot (o .has .inRange)),
-        ap₂ (λ b g. words (g .badge) (g .w0) (g .w1) (g .w2) (g .w3) (cond b 1 0)) (moving o) (message o),
-      ))
-    where
-      owned : slotFor s d x MAILBOX READ ≡ 0 → Owns s d x MAILBOX READ
-      owned e = owns s d x _ _ e
-
-      message : Owns s d x MAILBOX READ → s .message (held s d x .object) ≡ t .message (held t d x .object)
-      message o = same-message (o .has .inRange) (inr (able _ _ _ o))
-
-      moving : Owns s d x MAILBOX READ → moves s d (held s d x .object) y ≡ moves t d (held t d x .object) y
-      moving o =
-          and-same
-          (ap (λ c. holds c && ltb y slots)
-          (same-at (λ m. s .capability (room m)) (λ m. t .capability (room m)) (o .has .inRange)
-          (view .capability _ (mail refl (ours (inr (able _ _ _ o)))))))
-          (λ e. ap (λ c. not (holds c)) (same-slot (ltb-true y slots (both (holds (s .capability (room (held s d x .object)))) (ltb y slots) e .1))))
+      by : (h : Bool) → (h && ltb y slots && not (holds (held s d y))) ≡ (h && ltb y slots && not (holds (held t d y)))
+      by true = same-where (λ g c. g && not (holds c)) y refl
+      by false = refl
 
   same-decided : (n : Name) (o : Operation) → decided s d n o ≡ decided t d n o
-  unfolding decided load store derive delete revoke ring hear look
+  unfolding decided load store derive delete revoke ring hear send receive look
   same-decided IDLE o = refl
   same-decided LOAD o =
-      conclude-same (then-same 6 (same-for _ FRAME READ) (λ e. refl))
-      (λ e.
-      let u = owns s d _ _ _ (passes _ _ 5 e .0) in (
-        refl,
-        ap (λ v. words v 0 0 0 0 0)
-            (same-at (λ f. s .word f (o .second)) (λ f. t .word f (o .second)) (u .has .inRange) (view .word _ (ours (able _ _ _ u)) (o .second))),
-      ))
+      let w = o .second in
+      conclude-same (also 5 (same-for _ FRAME READ) (λ u. refl))
+      (λ p. (refl, ap (λ v. words v 0 0 0 0 0) (same-at (p .0) (λ f. s .word f w) (λ f. t .word f w) (view .word _ (ours (able _ _ _ (p .0))) w))))
   same-decided STORE o =
-      conclude-same (then-same 6 (same-for _ FRAME WRITE) (λ e. refl))
-      (λ e.
-      let u = owns s d _ _ _ (passes _ _ 5 e .0) in
-      (ap (λ c. Store (c .object) (o .second) (o .third)) (same-slot (u .has .inRange)), refl))
+      conclude-same (also 5 (same-for _ FRAME WRITE) (λ u. refl))
+      (λ p. (ap (λ c. Store (c .object) (o .second) (o .third)) (same-owned (p .0)), refl))
   same-decided DERIVE o =
-      conclude-same
-      (then-same 6
-      (then-same 7 (then-same 2 (same-any _) (λ e. refl))
-      (λ e. ap (λ c. not (holds c)) (same-slot (ltb-true _ _ (passes _ _ 1 e .1)))))
-      (λ e. refl))
-      (λ e.
-      let u = has s d _ (passes _ _ 1 (passes _ _ 6 (passes _ _ 5 e .0) .0) .0) in
-      (ap (λ c. Put (slot d (o .second)) (derived c (slot d (o .first)) (o .third) (o .fourth))) (same-slot (u .inRange)), refl))
-  same-decided DELETE o = conclude-same (same-any _) (λ e. (refl, refl))
-  same-decided REVOKE o = conclude-same (same-any _) (λ e. (refl, refl))
-  same-decided RING o =
-      conclude-same (same-for _ BELL WRITE)
-      (λ e. (ap (λ c. Ring (c .object) (c .badge)) (same-slot (owns s d _ _ _ e .has .inRange)), refl))
+      let range = also 1 (same-any (o .first)) (λ u. refl) in
+      let free = also 6 range (λ p. ap (λ c. not (holds c)) (same-slot (ltb-true _ _ (p .1)))) in
+      conclude-same (also 5 free (λ p. refl))
+      (λ p. (ap (λ c. Put (slot d (o .second)) (derived c (slot d (o .first)) (o .third) (o .fourth))) (same-slot (p .0 .0 .0 .inRange)), refl))
+  same-decided DELETE o = conclude-same (same-any _) (λ u. (refl, refl))
+  same-decided REVOKE o = conclude-same (same-any _) (λ u. (refl, refl))
+  same-decided RING o = conclude-same (same-for _ BELL WRITE) (λ u. (ap (λ c. Ring (c .object) (c .badge)) (same-owned u), refl))
   same-decided HEAR o =
       conclude-same (same-for _ BELL READ)
-      (λ e.
-      let u = owns s d _ _ _ e in (
-        ap (λ c. Hush (c .object)) (same-slot (u .has .inRange)),
-        ap (λ v. words v 0 0 0 0 0) (same-at (s .bell) (t .bell) (u .has .inRange) (view .bell _ (ours (able _ _ _ u)))),
+      (λ u.
+      (ap (λ c. Hush (c .object)) (same-owned u), ap (λ v. words v 0 0 0 0 0) (same-at u (s .bell) (t .bell) (view .bell _ (ours (able _ _ _ u))))))
+  same-decided SEND o =
+      let c = o .second in
+      let granted = also 4 (also 1 (same-for (o .first) MAILBOX WRITE) (λ u. refl)) (λ p. ap (λ k. not (goes c) || within GRANT (k .rights)) (same-owned (p .0))) in
+      let held = also 2 granted (λ p. same-where (λ g k. not g || holds k) c refl) in
+      conclude-same (also 7 held (λ p. ap (λ g. not (full g)) (same-message (p .0 .0 .0) (inl (able _ _ _ (p .0 .0 .0))))))
+      (λ p. (
+        ap₂ (λ k u. Post (k .object) (record { full = 1; badge = k .badge; w0 = o .third; w1 = o .fourth; w2 = o .fifth; w3 = o .sixth }) u)
+            (same-owned (p .0 .0 .0 .0)) (same-where (λ g k. cond g (copied k (slot d c)) nothing) c refl),
+        refl,
       ))
-  same-decided SEND o = same-send _ _ _ _ _ _
-  same-decided RECEIVE o = same-receive _ _
+  same-decided RECEIVE o =
+      let y = o .second in
+      conclude-same (also 8 (also 1 (same-for _ MAILBOX READ) (λ u. refl)) (λ p. ap full (same-message (p .0) (inr (able _ _ _ (p .0))))))
+      (λ p. (
+        ap₂ (λ b k. cond b (Move (k .object) (slot d y)) (Take (k .object))) (same-moves (p .0 .0) y) (same-owned (p .0 .0)),
+        ap₂ (λ b g. words (g .badge) (g .w0) (g .w1) (g .w2) (g .w3) (cond b 1 0)) (same-moves (p .0 .0) y) (same-message (p .0 .0) (inr (able _ _ _ (p .0 .0)))),
+      ))
   same-decided LOOK o =
-      conclude-same (same-any _)
-      (λ e. (refl, ap (λ c. words (c .kind) (c .rights) (c .object) (c .badge) 0 0) (same-slot (has s d _ e .inRange))))
+      conclude-same (same-any _) (λ u. (refl, ap (λ c. words (c .kind) (c .rights) (c .object) (c .badge) 0 0) (same-slot (u .inRange))))
   same-decided unknown o = refl
 
   -- a domain in L comes to the same decision at states that look the same: the same effect, and the same answer

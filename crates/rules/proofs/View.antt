@@ -17,11 +17,6 @@ use Rattle.rules.proofs.Licence.{Owns}
 
 -- ---- what an update does to each value
 
--- two branches that agree where the test passes
-pub cond-same : {A : Type 0} (b : Bool) {x y : A} (z : A) → (b ≡ true → x ≡ y) → cond b x z ≡ cond b y z
-cond-same true z h = h refl
-cond-same false z h = refl
-
 -- what relates the values of f and g everywhere, and the new ones, relates them after one value of each is set
 pub set-both : {A B : Type 0} (R : ℕ → A → B → Type 0) {f : ℕ → A} {g : ℕ → B} {i : ℕ} {v : A} {w : B} → ((j : ℕ) → R j (f j) (g j))
     → R i v w → (j : ℕ) → R j (set f i v j) (set g i w j)
