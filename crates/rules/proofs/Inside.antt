@@ -20,7 +20,8 @@ use Rattle.rules.specs.declared.Effect.{Effect}
 use Rattle.rules.specs.declared.Effect.the-variants.{Store, Ring, Hush, Put, Post, Take, Move}
 use Rattle.rules.proofs.Laws.{passes}
 use Rattle.rules.proofs.Licence.{Has, Owns, Licence, nothing-done, stores, rings, hushes, puts, drops, prunes, posts, sends, takes, gets, has, owns}
-use Rattle.rules.proofs.View.{Alike, set-both, resourced, Some, Frame, Bell, Mailbox, Seen, own, mail, View, Tie, Able, stored, rung, mailed, placed, ours-slot, comes-same}
+use Rattle.rules.proofs.Places.{resourced}
+use Rattle.rules.proofs.View.{Alike, set-both, Some, Frame, Bell, Mailbox, Seen, own, mail, View, Tie, Able, stored, rung, mailed, placed, ours-slot, comes-same}
 
 -- ---- checks that agree
 

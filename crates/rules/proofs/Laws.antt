@@ -105,3 +105,12 @@ set-here f i v = rw (eq-eqb i i refl)
 pub set-there : {A : Type 0} (f : ℕ → A) (i : ℕ) (v : A) (j : ℕ) → (j ≡ i → ⊥) → set f i v j ≡ f j
 unfolding set
 set-there f i v j h = rw (ne-eqb j i h)
+
+-- each value satisfies Q, the new one too
+pub set-each : {A : Type 0} (Q : ℕ → A → Type 0) (f : ℕ → A) (i : ℕ) (v : A) → ((j : ℕ) → Q j (f j)) → Q i v → (j : ℕ) → Q j (set f i v j)
+unfolding set
+set-each Q f i v each h j = go (eqb j i) refl
+  where
+    go : (t : Bool) → eqb j i ≡ t → Q j (cond t v (f j))
+    go true e = subst (λ x. Q x v) (sym (eqb-true j i e)) h
+    go false e = each j

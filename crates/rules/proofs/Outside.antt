@@ -1,5 +1,5 @@
 -- Each licensed effect keeps the tie of sources to L; that of a domain outside L changes nothing that L sees. Assumes nothing.
-use mathlib.Core.Path.{_≡_, refl, ap, subst}
+use mathlib.Core.Path.{_≡_, refl, sym, ap, subst}
 use mathlib.Core.Bool.{Bool, false}
 use mathlib.Core.Logic.{inl, inr}
 use Prim.Native.Nat.{ℕ, suc, _<_}
@@ -12,10 +12,12 @@ use Rattle.rules.specs.Flow.{Case, Closed, frame, ringing, hearing, mail
 use Rattle.rules.specs.declared.Capability.{Capability}
 use Rattle.rules.specs.declared.Message.{Message}
 use Rattle.rules.specs.declared.Effect.{Effect}
-use Rattle.rules.proofs.Laws.{not-both}
+use Rattle.rules.proofs.Laws.{not-both, set-each}
+use Rattle.rules.proofs.Places.{dropped-other, pruned-kept, each-dropped, each-pruned}
 use Rattle.rules.proofs.Licence.{Licence, nothing-done, stores, rings, hushes, puts, drops, prunes, posts, sends, takes, gets}
-use Rattle.rules.proofs.View.{Alike, set-each, dropped-each, pruned-each, Some, Frame, Bell, Mailbox, Ours, Seen, own, mail, View, Tied, Tie, Able, view-refl, stored, rung, mailed, placed, ours-slot, seen-slot, seen-room, comes-not, drawn}
+use Rattle.rules.proofs.View.{Alike, Some, Frame, Bell, Mailbox, Ours, Seen, own, mail, View, Tied, Tie, Able, view-refl, stored, rung, mailed, placed, ours-slot, seen-slot, seen-room, comes-not, drawn}
 
+-- no source is tied to L, and so is a source in L
 pub untied : {L : ℕ → Bool} → Tied L 0
 untied p e = absurd (omega arith)
 
@@ -24,7 +26,7 @@ tied-to {L} {p} o q e = let f : p ≡ q = omega arith in subst (λ k. Ours L k) 
 
 -- a value set where P does not look
 set-hidden : {A : Type 0} (P : ℕ → Type 0) (f : ℕ → A) (i : ℕ) (v : A) → (P i → ⊥) → Alike P f (set f i v)
-set-hidden P f i v hidden = set-each (λ j x. P j → f j ≡ x) (λ j h. refl) (λ h. absurd (hidden h))
+set-hidden P f i v hidden = set-each (λ j x. P j → f j ≡ x) f i v (λ j h. refl) (λ h. absurd (hidden h))
 
 -- the tie at one place
 abbrev TiedAt : Image → (ℕ → Bool) → ℕ → Capability → Type 0
@@ -40,18 +42,17 @@ module _ (i : Image) (L : ℕ → Bool) (closed : Closed i L) (s : State) (d : �
   tie-kept (rings o) = tie
   tie-kept (hushes o) = tie
   tie-kept (puts r h f b) =
-      set-each (TiedAt i L) tie
+      set-each (TiedAt i L) _ _ _ tie
       (λ seen. tied-to (ours-slot below (h .inRange) (seen-slot d below (f .inRange) seen)))
-  tie-kept (drops h) =
-      λ q seen. dropped-each (λ c. Tied L (c .source)) (s .capability) _ q (λ e. untied) (λ e. tie _ (own (tie q seen _ e))) (tie q seen)
-  tie-kept (prunes h) = λ q seen. pruned-each (λ c. Tied L (c .source)) (s .capability) _ q (λ e. untied) (tie q seen)
-  tie-kept (posts o f) = set-each (TiedAt i L) tie (λ seen. untied)
+  tie-kept (drops h) = each-dropped (TiedAt i L) (s .capability) tie _ (λ q seen. untied) (λ q e seen. tie _ (own (tie q seen _ e)))
+  tie-kept (prunes h) = each-pruned (TiedAt i L) (s .capability) tie _ (λ q seen. untied)
+  tie-kept (posts o f) = set-each (TiedAt i L) _ _ _ tie (λ seen. untied)
   tie-kept (sends o g h f) =
-      set-each (TiedAt i L) tie
+      set-each (TiedAt i L) _ _ _ tie
       (λ seen. tied-to (ours-slot below (h .inRange) (drawn i L closed d (λ a. mailbox (inl (able _ _ _ o))) (seen-room seen))))
-  tie-kept (takes o) = set-each (TiedAt i L) tie (λ seen. untied)
+  tie-kept (takes o) = set-each (TiedAt i L) _ _ _ tie (λ seen. untied)
   tie-kept (gets o h f) =
-      set-each (TiedAt i L) (set-each (TiedAt i L) tie (λ seen. untied))
+      set-each (TiedAt i L) _ _ _ (set-each (TiedAt i L) _ _ _ tie (λ seen. untied))
       (λ seen. tie _ (mail refl (record { domain = d; inside = seen-slot d below (f .inRange) seen; does = inr (able _ _ _ o) })))
 
   module _ (out : L d ≡ false) where
@@ -84,16 +85,13 @@ module _ (i : Image) (L : ℕ → Bool) (closed : Closed i L) (s : State) (d : �
     outside (puts r h f b) = placed (view-refl s) (set-hidden (Seen i L) (s .capability) _ _ (not-ours (f .inRange)))
     outside (drops h) =
         placed (view-refl s)
-        (λ q seen. dropped-each (λ c. s .capability q ≡ c) (s .capability) _ q
-        (λ e. absurd (not-ours (h .inRange) (subst (Seen i L) e seen))) (λ e. absurd (not-ours (h .inRange) (own (tie q seen _ e)))) refl)
-    outside (prunes h) =
-        placed (view-refl s)
-        (λ q seen. pruned-each (λ c. s .capability q ≡ c) (s .capability) _ q
-        (λ e. absurd (not-both e (not-derived (h .inRange) q seen))) refl)
+        (λ q seen. sym (dropped-other (s .capability) _ q
+        (λ e. not-ours (h .inRange) (subst (Seen i L) e seen)) (λ e. not-ours (h .inRange) (own (tie q seen _ e)))))
+    outside (prunes h) = placed (view-refl s) (λ q seen. sym (pruned-kept (s .capability) _ q (not-derived (h .inRange) q seen)))
     outside (posts o f) = posted _ _ (unseen (λ a. mailbox (inl (able _ _ _ o))))
     outside (sends o g h f) = posted _ _ (unseen (λ a. mailbox (inl (able _ _ _ o))))
     outside (takes o) = posted _ _ (unseen (λ a. mailbox (inr (able _ _ _ o))))
     outside (gets o h f) =
         let v = posted noMessage nothing (unseen (λ a. mailbox (inr (able _ _ _ o)))) in
         mailed (view-refl s)
-        (set-each (λ q c. Seen i L q → s .capability q ≡ c) (v .capability) (λ seen. absurd (not-ours (f .inRange) seen))) (v .message)
+        (set-each (λ q c. Seen i L q → s .capability q ≡ c) _ _ _ (v .capability) (λ seen. absurd (not-ours (f .inRange) seen))) (v .message)

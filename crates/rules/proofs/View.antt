@@ -2,20 +2,19 @@
 -- slot of a domain of L. Assumes nothing.
 use mathlib.Core.Path.{_≡_, refl, sym, ap, ap₂, _∙_, subst}
 use mathlib.Core.Bool.{Bool, true, false, cond, _||_}
+use mathlib.Core.Logic.{⊎-elim}
 use Prim.Native.Nat.{ℕ, zero, suc, _/_, _<_}
 use native.Mathlib.Omega.{arith}
 use lib.Dec.{eqb}
-use borrow.Author.Tests.{eqb-true, eqb-false, ne-eqb}
+use borrow.Author.Tests.{eqb-true, ne-eqb}
 use Rattle.rules.specs.Sizes.{domainsMost, slots, allSlots}
-use Rattle.rules.specs.State.{State, Places, FRAME, MAILBOX, BELL, slot, room, nothing, comesTo, derivedFrom}
-use Rattle.rules.specs.Turn.{held, set, dropped, pruned, changed, withMail, withPlaces, advance}
+use Rattle.rules.specs.State.{State, Places, FRAME, MAILBOX, BELL, slot, room, comesTo}
+use Rattle.rules.specs.Turn.{held, set, changed, withMail, withPlaces, advance}
 use Rattle.rules.specs.Image.{Image}
 use Rattle.rules.specs.Flow.{Could, Reader, User, Case, Closed, direct}
-use Rattle.rules.specs.declared.Capability.{Capability}
 use Rattle.rules.specs.declared.Message.{Message}
 use Rattle.rules.proofs.Licence.{Owns}
-
--- ---- what an update does to each value
+use Rattle.rules.proofs.Places.{same?}
 
 -- what relates the values of f and g everywhere, and the new ones, relates them after one value of each is set
 pub set-both : {A B : Type 0} (R : ℕ → A → B → Type 0) {f : ℕ → A} {g : ℕ → B} {i : ℕ} {v : A} {w : B} → ((j : ℕ) → R j (f j) (g j))
@@ -27,41 +26,9 @@ set-both R {f} {g} {i} {v} {w} old new j = by (eqb j i) refl
     by true e = subst (λ k. R k v w) (sym (eqb-true _ _ e)) new
     by false e = old j
 
--- the same of one
-pub set-each : {A : Type 0} (Q : ℕ → A → Type 0) {f : ℕ → A} {i : ℕ} {v : A} → ((j : ℕ) → Q j (f j)) → Q i v
-    → (j : ℕ) → Q j (set f i v j)
-set-each Q {f} {i} {v} old new = set-both (λ j x y. Q j x) {g = f} {w = v} old new
-
 -- f and g have the same values wherever P looks
 abbrev pub Alike : {A : Type 0} → (ℕ → Type 0) → (ℕ → A) → (ℕ → A) → Type 0
 Alike P f g = (j : ℕ) → P j → f j ≡ g j
-
--- c with source number x
-abbrev pub resourced : Capability → ℕ → Capability
-resourced c x = record { kind = c .kind; rights = c .rights; object = c .object; badge = c .badge; source = x }
-
--- what DELETE of place p leaves at place q: nothing, the capability with p's source, or what was there
-pub dropped-each : (Q : Capability → Type 0) (at : Places) (p q : ℕ) → (q ≡ p → Q nothing)
-    → (at q .source ≡ suc p → Q (resourced (at q) (at p .source))) → Q (at q) → Q (dropped at p q)
-unfolding dropped
-dropped-each Q at p q gone child other = by (eqb q p) refl
-  where
-    kept : (b : Bool) → eqb (at q .source) (suc p) ≡ b → Q (resourced (at q) (cond b (at p .source) (at q .source)))
-    kept true e = child (eqb-true _ _ e)
-    kept false e = other
-
-    by : (b : Bool) → eqb q p ≡ b → Q (cond b nothing (resourced (at q) (cond (eqb (at q .source) (suc p)) (at p .source) (at q .source))))
-    by true e = gone (eqb-true _ _ e)
-    by false e = kept _ refl
-
--- what REVOKE of place p leaves at place q
-pub pruned-each : (Q : Capability → Type 0) (at : Places) (p q : ℕ) → (derivedFrom at p q ≡ true → Q nothing) → Q (at q) → Q (pruned at p q)
-unfolding pruned
-pruned-each Q at p q gone other = by (derivedFrom at p q) refl
-  where
-    by : (b : Bool) → derivedFrom at p q ≡ b → Q (cond b nothing (at q))
-    by true e = gone e
-    by false e = other
 
 -- ---- what L sees
 
@@ -110,11 +77,13 @@ Tie i L at = (q : ℕ) → Seen i L q → Tied L (at q .source)
 abbrev pub Able : Image → State → ℕ → Type 0
 Able i s d = (x k r : ℕ) → Owns s d x k r → Could i k (held s d x .object) r d
 
+-- a slot of a domain in L is L's
 pub ours-slot : {L : ℕ → Bool} {d x : ℕ} → d < domainsMost → x < slots → L d ≡ true → Ours L (slot d x)
 ours-slot {L} {d} {x} b r h =
     record { inRange = omega arith; inside = let e : d ≡ slot d x / slots = omega arith in subst (λ k. L k ≡ true) e h }
 
 module _ {i : Image} {L : ℕ → Bool} where
+  -- a state looks like itself
   pub view-refl : (s : State) → View i L s s
   view-refl s = record { capability = λ q h. refl; word = λ f h w. refl; bell = λ b h. refl; message = λ m h. refl }
 
@@ -128,7 +97,7 @@ module _ {i : Image} {L : ℕ → Bool} where
         message = λ m h. sym (b .message m h) ∙ (a .message m h ∙ c .message m h);
       }
 
-  -- states that look the same, one part of each changed
+  -- states that look the same, then one part of each changed: the words, the bells, places and messages, places alone
   module _ {s t : State} (v : View i L s t) where
     pub stored : {f g : ℕ → ℕ → ℕ} → ((j : ℕ) → Frame i L j → (w : ℕ) → f j w ≡ g j w)
         → View i L (changed s (s .capability) f (s .bell) (s .message)) (changed t (t .capability) g (t .bell) (t .message))
@@ -184,8 +153,6 @@ module _ {i : Image} {L : ℕ → Bool} where
 
 -- a domain with a case of direct flow to a domain in a closed set is in it
 pub drawn : (i : Image) (L : ℕ → Bool) → Closed i L → (d : ℕ) {R : ℕ → Type 0} → ((a : ℕ) → R a → Case i d a) → Some L R → L d ≡ true
-drawn i L closed d {R} case u = by (eqb d (u .domain)) refl
-  where
-    by : (b : Bool) → eqb d (u .domain) ≡ b → L d ≡ true
-    by true e = ap L (eqb-true _ _ e) ∙ u .inside
-    by false e = closed _ _ (direct (record { different = eqb-false _ _ e; because = case _ (u .does) })) (u .inside)
+drawn i L closed d case u =
+    ⊎-elim (λ e. ap L e ∙ u .inside)
+    (λ n. closed _ _ (direct (record { different = n; because = case _ (u .does) })) (u .inside)) (same? d (u .domain))

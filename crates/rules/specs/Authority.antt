@@ -8,14 +8,14 @@ use Prim.Native.Nat.{ℕ, _<_}
 use Rattle.rules.specs.Sizes.{slots}
 use Rattle.rules.specs.State.{State, Places, MAILBOX, within, slot, room, nothing, whose, Holds, Derived, Fits, Section4, Formed, derivedFrom}
 use Rattle.rules.specs.Turn.{Name, DELETE, REVOKE, named, answer, next}
-use Rattle.rules.specs.Image.{Entry, Image, imageOf, sourceless, defines, given, boot, some, formRefusal, refusalOf}
+use Rattle.rules.specs.Image.{Bytes, Entry, Image, imageOf, sourceless, defines, given, boot, some, formRefusal, refusalOf}
 use Rattle.rules.specs.Flow.{Triple, CouldHold, Reader}
 use Rattle.rules.specs.declared.Capability.{Capability}
 use Rattle.rules.specs.declared.Operation.{Operation}
 
 -- a state that is reached from the bytes of an accepted image by some sequence of turns
 pub data Reached (b : List ℕ) : State → Type 0 where
-  booted : refusalOf b ≡ 0 → Reached b (boot (imageOf b))
+  booted : Bytes b → refusalOf b ≡ 0 → Reached b (boot (imageOf b))
   turned : {s : State} → Reached b s → (o : Operation) → Reached b (next s o)
 
 -- section 4 always holds, and so do the sizes and ranges of sections 1 and 2
@@ -100,7 +100,7 @@ pub record Covered (i : Image) (d : ℕ) (c : Capability) : Type 0 where
 
 -- confinement, document 03 section 1; and of a capability under way: every reader of the mailbox could hold it
 pub record Confined (i : Image) (s : State) : Type 0 where
-  pub inSlots : (d x : ℕ) → x < slots → Holds (s .capability) (slot d x) → Covered i d (s .capability (slot d x))
+  pub inSlots : (d x : ℕ) → d < s .domains → x < slots → Holds (s .capability) (slot d x) → Covered i d (s .capability (slot d x))
   pub underWay : (m d : ℕ) → Reader i MAILBOX m d → Holds (s .capability) (room m) → Covered i d (s .capability (room m))
 
 abbrev pub Confinement : Type 0

@@ -1,8 +1,8 @@
 -- Document 01, section 5: the boot image. Bytes to a state or the first refusal that applies, and a state to bytes or refusal 27.
--- A list of numbers below 256 stands for bytes. Assumes nothing.
+-- A list of numbers stands for bytes. Assumes nothing.
 use mathlib.Core.Bool.{Bool, true, false, cond, not, _&&_, _||_}
 use mathlib.Core.List.{List, [], _∷_, _++_}
-use Prim.Native.Nat.{ℕ, zero, suc, _+_, _-_, _*_, _/_, _%_}
+use Prim.Native.Nat.{ℕ, zero, suc, _+_, _-_, _*_, _/_, _%_, _<_}
 use lib.Dec.{eqb, leb, ltb}
 use lib.ListN.{length, getD, take, drop, replicate}
 use Rattle.rules.specs.Sizes.{domainsMost, slots, framesMost, frameWords, mailboxes, bells, turnsMost, entriesMost, places}
@@ -30,6 +30,10 @@ pub record Image : Type 0 where
   pub entries : List Entry
 
 -- ---- the bytes' fields
+
+-- each is a byte
+abbrev pub Bytes : List ℕ → Type 0
+Bytes b = (i : ℕ) → getD b i 0 < 256
 
 -- byte i, and the number of two bytes at i, high byte first
 abbrev pub byte : List ℕ → ℕ → ℕ

@@ -6,3 +6,4 @@ pub mod Flow
 pub mod Worked
 pub mod Authority
 pub mod Partition
+pub mod History

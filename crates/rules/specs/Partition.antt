@@ -7,7 +7,7 @@ use Prim.Native.Nat.{ℕ, zero, suc, _%_}
 use lib.ListN.{length, getD}
 use Rattle.rules.specs.State.{State, whose}
 use Rattle.rules.specs.Turn.{set, answer, next}
-use Rattle.rules.specs.Image.{Image, imageOf, boot, refusalOf}
+use Rattle.rules.specs.Image.{Bytes, Image, imageOf, boot, refusalOf}
 use Rattle.rules.specs.Flow.{Closed}
 use Rattle.rules.specs.declared.Operation.{Operation}
 use Rattle.rules.specs.declared.Answer.{Answer}
@@ -47,10 +47,10 @@ Agree L P Q = (d : ℕ) → L d ≡ true → P d ≡ Q d
 -- the promise: for every accepted image, every closed set L and any two choices of programs that agree on L, each domain in L gets
 -- the same answers, statuses and all words, for as long as one cares to look
 abbrev pub Promise : Type 0
-Promise = (b : List ℕ) → refusalOf b ≡ 0 → (L : ℕ → Bool) → Closed (imageOf b) L → (P Q : Programs) → Agree L P Q
+Promise = (b : List ℕ) → Bytes b → refusalOf b ≡ 0 → (L : ℕ → Bool) → Closed (imageOf b) L → (P Q : Programs) → Agree L P Q
     → (n d : ℕ) → L d ≡ true → run (imageOf b) P n .past d ≡ run (imageOf b) Q n .past d
 
 -- whose turn it is depends on the table alone
 abbrev pub TurnsByTable : Type 0
-TurnsByTable = (b : List ℕ) → refusalOf b ≡ 0 → (P : Programs) (n : ℕ)
+TurnsByTable = (b : List ℕ) → Bytes b → refusalOf b ≡ 0 → (P : Programs) (n : ℕ)
     → whose (run (imageOf b) P n .state) ≡ getD (imageOf b .turns) (n % length (imageOf b .turns)) 0
