@@ -3,10 +3,10 @@ pub mod Fixed
 pub mod Licence
 pub mod Places
 pub mod Derivation
+pub mod Chain
 pub mod Section4
 pub mod Always
 pub mod Formed
-pub mod Chain
 pub mod Given
 pub mod Bootable
 pub mod Revoke
@@ -14,4 +14,9 @@ pub mod Confinement
 pub mod Reached
 pub mod History
 pub mod Followed
+pub mod View
+pub mod Outside
+pub mod Inside
+pub mod Table
+pub mod Promise
 pub mod Worked
