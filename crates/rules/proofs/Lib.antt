@@ -14,4 +14,5 @@ pub mod Confinement
 pub mod Reached
 pub mod History
 pub mod Followed
+pub mod Certificate
 pub mod Worked
