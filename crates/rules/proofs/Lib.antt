@@ -19,4 +19,5 @@ pub mod Outside
 pub mod Inside
 pub mod Table
 pub mod Promise
+pub mod Certificate
 pub mod Worked
