@@ -5,17 +5,19 @@ use mathlib.Core.List.{List}
 use mathlib.Core.Logic.{_⊎_, inl, inr, ⊎-elim}
 use Prim.Native.Nat.{ℕ, zero, suc, _+_, _*_, _^_, _≤_, _<_}
 use native.Mathlib.Omega.{arith}
+use native.Mathlib.Nat.{le-antisymm}
 use lib.Dec.{eqb, ltb}
 use lib.ListN.{length, getD, set, length-set}
-use lib.Seq.{getD-set-other}
+use lib.Seq.{getD-set-same, getD-set-other}
 use borrow.Author.Tests.{ltb-true, lt-ltb, le-ltb, eqb-true, eqb-false, eq-eqb, ne-eqb}
 use Rattle.rules.specs.Sizes.{places, bells, mailboxes, frameWords}
 use Rattle.rules.specs.State.{State}
+use Rattle.rules.proofs.Places.{same?}
 use Rattle.rules.specs.Turn.{set as setAt, advance}
 use Rattle.rules.specs.declared.Capability.{Capability}
 use Rattle.rules.specs.declared.Message.{Message}
 use Rattle.layout.specs.Layout.{size, base, cells, listed, ofCells, stateOf, framesAt, need, Enough, HEAD, TURNS, KIND, RIGHTS, OBJECT, BADGE, SOURCE, BELLS, FULL, FROM, W0, W1, W2, W3, FRAMES}
-use Rattle.layout.specs.Stored.{Stored, placed, resourced, handed, worded, belled, mailed, Placed}
+use Rattle.layout.specs.Stored.{Stored, placed, resourced, handed, worded, belled, mailed, Placed, Cleared}
 use Rattle.layout.proofs.Cells.{put, cells-at, cells-set, frames-law, head-law, length-listed}
 
 -- m became n by stores to the state's own words, and its cells are now c
@@ -261,3 +263,20 @@ position-law m v e h =
       behind = w .behind;
       exact = λ o. ap ofCells (w .cell) ∙ position-cells (cells m) v (h (subst (λ n. getD m 3 0 < n) (length-listed (cells m TURNS) (getD m 2 0) 0) o));
     }
+
+-- ---- words cleared one after the other
+
+pub cleared-none : (m : List ℕ) → Cleared 0 m m
+cleared-none m = record { long = refl; zero = λ k h. absurd (omega arith); behind = λ k h. refl }
+
+pub cleared-more : {i : ℕ} {m o : List ℕ} → i < length m → Cleared i m o → Cleared (i + 1) m (set o i 0)
+cleared-more {i} {m} {o} h c =
+    record {
+      long = length-set o i 0 ∙ c .long;
+      zero = λ k l. ⊎-elim (λ e. ap (λ j. getD (set o i 0) j 0) e ∙ getD-set-same o i 0 0 (let g = c .long in omega arith))
+        (λ n. getD-set-other o i k 0 0 n ∙ c .zero k (omega arith)) (same? k i);
+      behind = λ k l. getD-set-other o i k 0 0 (λ e. omega arith) ∙ c .behind k (omega arith)
+    }
+
+pub cleared-all : {i n : ℕ} {m o : List ℕ} → i ≤ n → n ≤ i → Cleared i m o → Cleared n m o
+cleared-all {m = m} {o} h g c = subst (λ k. Cleared k m o) (let e = le-antisymm h g in e) c

@@ -3,9 +3,9 @@
 use mathlib.Core.Path.{_≡_}
 use mathlib.Core.Bool.{cond}
 use mathlib.Core.List.{List}
-use Prim.Native.Nat.{ℕ, suc, _≤_, _<_}
+use Prim.Native.Nat.{ℕ, suc, _+_, _≤_, _<_}
 use lib.Dec.{eqb}
-use lib.ListN.{length, getD}
+use lib.ListN.{length, getD, set as store}
 use Rattle.rules.specs.State.{State, Places}
 use Rattle.rules.specs.Turn.{set, changed, withPlaces}
 use Rattle.rules.specs.declared.Capability.{Capability}
@@ -46,3 +46,19 @@ mailed m g s = changed s (s .capability) (s .word) (s .bell) (set (s .message) m
 -- the position is one of the table's
 abbrev pub Placed : State → Type 0
 Placed s = s .position < length (s .turns)
+
+-- ---- boot
+
+-- the first n words of memory m became 0
+pub record Cleared (n : ℕ) (m o : List ℕ) : Type 0 where
+  pub long : length o ≡ length m
+  pub zero : (k : ℕ) → k < n → getD o k 0 ≡ 0
+  pub behind : (k : ℕ) → n ≤ k → getD o k 0 ≡ getD m k 0
+
+-- the head of a state: D, F and T
+unfoldable pub headed : ℕ → ℕ → ℕ → List ℕ → List ℕ
+headed domains frames turns m = store (store (store m 0 domains) 1 frames) 2 turns
+
+-- turn i of the table is domain d's
+unfoldable pub turning : ℕ → ℕ → List ℕ → List ℕ
+turning i d m = store m (4 + i) d

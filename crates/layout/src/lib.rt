@@ -7,11 +7,11 @@ ghost use mathlib.Core.Bool.{cond};
 ghost use Prim.Native.Nat.{suc, _+_, _≤_, _<_};
 ghost use lib.Dec.{eqb, leb};
 ghost use lib.ListN.{length};
-ghost use Rattle.rules.specs.Sizes.{places, bells, mailboxes, frameWords};
+ghost use Rattle.rules.specs.Sizes.{places, bells, mailboxes, turnsMost, frameWords};
 ghost use Rattle.rules.specs.State.{whose as turnOf};
 ghost use Rattle.rules.specs.Turn.{advance};
-ghost use Rattle.layout.specs.Layout.{stateOf, need, Enough, visitsMost, wordsOf};
-ghost use Rattle.layout.specs.Stored.{Stored, placed, handed, worded, belled, mailed, Placed};
+ghost use Rattle.layout.specs.Layout.{stateOf, framesAt, need, Enough, visitsMost, wordsOf};
+ghost use Rattle.layout.specs.Stored.{Stored, placed, handed, worded, belled, mailed, Placed, Cleared, headed, turning};
 
 const PLACES: usize = 1088;
 
@@ -266,4 +266,34 @@ pub fn enough(mem: &[u32]) -> bool
         return false;
     }
     FRAMES + 256 * mem[FRAME_COUNT] as usize <= mem.len()
+}
+
+// The first n words become 0.
+pub fn clear(mem: &mut [u32], n: usize)
+    requires { ⌜ n ≤ length (now mem) ⌝ }
+    ensures { λ _. ⌜ Cleared n (now (mem .entry)) (now (mem .exit)) ⌝ }
+{
+    let mut i = 0;
+    while i < n {
+        mem[i] = 0;
+        i += 1;
+    }
+}
+
+// The head of a state at boot: D, F and T; the position is left as it is.
+pub fn set_head(mem: &mut [u32], domains: u32, frames: u32, turns: u32)
+    requires { ⌜ framesAt ≤ length (now mem) ⌝ }
+    ensures { λ _. ⌜ now (mem .exit) ≡ headed domains frames turns (now (mem .entry)) ⌝ }
+{
+    mem[0] = domains;
+    mem[FRAME_COUNT] = frames;
+    mem[TURN_COUNT] = turns;
+}
+
+// Turn i of the table is domain d's.
+pub fn set_turn(mem: &mut [u32], i: usize, d: u32)
+    requires { ⌜ framesAt ≤ length (now mem) ⌝ ∗ ⌜ i < turnsMost ⌝ }
+    ensures { λ _. ⌜ now (mem .exit) ≡ turning i d (now (mem .entry)) ⌝ }
+{
+    mem[TURNS + i] = d;
 }
