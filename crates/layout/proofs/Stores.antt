@@ -274,9 +274,13 @@ cleared-more {i} {m} {o} h c =
     record {
       long = length-set o i 0 ∙ c .long;
       zero = λ k l. ⊎-elim (λ e. ap (λ j. getD (set o i 0) j 0) e ∙ getD-set-same o i 0 0 (let g = c .long in omega arith))
-        (λ n. getD-set-other o i k 0 0 n ∙ c .zero k (omega arith)) (same? k i);
-      behind = λ k l. getD-set-other o i k 0 0 (λ e. omega arith) ∙ c .behind k (omega arith)
+          (λ n. getD-set-other o i k 0 0 n ∙ c .zero k (omega arith)) (same? k i);
+      behind = λ k l. getD-set-other o i k 0 0 (λ e. omega arith) ∙ c .behind k (omega arith);
     }
 
 pub cleared-all : {i n : ℕ} {m o : List ℕ} → i ≤ n → n ≤ i → Cleared i m o → Cleared n m o
 cleared-all {m = m} {o} h g c = subst (λ k. Cleared k m o) (let e = le-antisymm h g in e) c
+
+-- one store leaves every other word as it was
+pub elsewhere-set : (m : List ℕ) (i v k : ℕ) → (k ≡ i → ⊥) → getD (set m i v) k 0 ≡ getD m k 0
+elsewhere-set m i v k h = getD-set-other m i k v 0 h

@@ -97,6 +97,10 @@ stateOf m = ofCells (cells m)
 abbrev pub visitsMost : ℕ
 visitsMost = 2000000
 
+-- where the position stands
+abbrev pub positionAt : ℕ
+positionAt = 3
+
 -- where the frames begin, and how many words a state with so many frames takes
 abbrev pub framesAt : ℕ
 framesAt = 5956

@@ -19,6 +19,10 @@ pub record Stored (ok : Type 0) (f : State → State) (m n : List ℕ) : Type 0 
   pub behind : (k : ℕ) → need m ≤ k → getD n k 0 ≡ getD m k 0
   pub exact : ok → stateOf n ≡ f (stateOf m)
 
+-- every word but word i is as it was
+abbrev pub Elsewhere : ℕ → List ℕ → List ℕ → Type 0
+Elsewhere i m n = (k : ℕ) → (k ≡ i → ⊥) → getD n k 0 ≡ getD m k 0
+
 -- place p holds c
 unfoldable pub placed : ℕ → Capability → State → State
 placed p c s = withPlaces s (set (s .capability) p c)

@@ -10,8 +10,8 @@ ghost use lib.ListN.{length};
 ghost use Rattle.rules.specs.Sizes.{places, bells, mailboxes, turnsMost, frameWords};
 ghost use Rattle.rules.specs.State.{whose as turnOf};
 ghost use Rattle.rules.specs.Turn.{advance};
-ghost use Rattle.layout.specs.Layout.{stateOf, framesAt, need, Enough, visitsMost, wordsOf};
-ghost use Rattle.layout.specs.Stored.{Stored, placed, handed, worded, belled, mailed, Placed, Cleared, headed, turning};
+ghost use Rattle.layout.specs.Layout.{stateOf, positionAt, framesAt, need, Enough, visitsMost, wordsOf};
+ghost use Rattle.layout.specs.Stored.{Stored, placed, handed, worded, belled, mailed, Placed, Elsewhere, Cleared, headed, turning};
 
 const PLACES: usize = 1088;
 
@@ -240,7 +240,7 @@ fn following(at: u32, t: u32) -> u32
 // The position moves on by one, from the last to the first.
 pub fn move_on(mem: &mut [u32])
     requires { ⌜ Enough (now mem) ⌝ }
-    ensures { λ _. ⌜ Stored (Placed (stateOf (now (mem .entry)))) advance (now (mem .entry)) (now (mem .exit)) ⌝ }
+    ensures { λ _. ⌜ Stored (Placed (stateOf (now (mem .entry)))) advance (now (mem .entry)) (now (mem .exit)) × Elsewhere positionAt (now (mem .entry)) (now (mem .exit)) ⌝ }
 {
     mem[POSITION] = following(mem[POSITION], mem[TURN_COUNT]);
 }

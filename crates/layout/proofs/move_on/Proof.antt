@@ -1,5 +1,5 @@
 -- `layout::move_on` meets its contract. Assumes nothing.
-use Rattle.layout.proofs.Stores.{position-law}
+use Rattle.layout.proofs.Stores.{position-law, elsewhere-set}
 use borrow.Author.Needs.{needs}
 use Rattle.layout.proofs.move_on.Statement.{statement}
 use Rattle.layout.proofs.move_on.Tie as tie
@@ -20,7 +20,7 @@ same-length : tie.Need-same-length
 same-length c = search needs
 
 returns : tie.Need-returns
-returns c = search (needs, position-law)
+returns c = (search (needs, position-law), λ k h. search elsewhere-set)
 
 pub move-on-spec : {M : Type 1} → statement M
 move-on-spec =
