@@ -1,0 +1,4 @@
+pub mod Kept
+pub mod Dropping
+pub mod Marking
+pub mod Pruning
