@@ -10,7 +10,9 @@ pub mod Formed
 pub mod Given
 pub mod Bootable
 pub mod Revoke
+pub mod Apart
 pub mod Confinement
+pub mod Mail
 pub mod Reached
 pub mod History
 pub mod Followed
