@@ -1,15 +1,15 @@
--- What SEND and RECEIVE do to a mailbox: a message has the badge of the slot that it was sent by, and one that is there is received,
--- whatever slot t holds, which leaves the mailbox empty. Assumes nothing.
+-- What SEND and RECEIVE do: a capability needs GRANT to go, a message has the badge of the slot that it was sent by, and one that is
+-- there is received, whatever slot t holds, which leaves the mailbox empty. Assumes nothing.
 use mathlib.Core.Path.{_≡_, refl, sym, ap, subst}
 use mathlib.Core.Bool.{Bool, true, false, cond, not, _&&_}
 use Prim.Native.Nat.{ℕ, suc, _≤_, _<_}
 use native.Mathlib.Omega.{arith}
 use lib.Dec.{ltb}
-use borrow.Author.Tests.{ltb-true, le-leb, ne-eqb}
+use borrow.Author.Tests.{ltb-true, lt-ltb, le-leb, ne-eqb}
 use Rattle.rules.specs.Sizes.{domainsMost, slots}
-use Rattle.rules.specs.State.{State, MAILBOX, READ, slot, room, nothing, noMessage, whose}
+use Rattle.rules.specs.State.{State, MAILBOX, READ, WRITE, GRANT, within, slot, room, nothing, noMessage, whose}
 use Rattle.rules.specs.Turn.{_then_else_, held, present, holds, slotFor, conclude, send, moves, receive, SEND, RECEIVE, named, decided, decide, apply, advance, next, answer}
-use Rattle.rules.specs.Authority.{SendBadge, Received}
+use Rattle.rules.specs.Authority.{SendNeedsGrant, SendBadge, Received}
 use Rattle.rules.specs.declared.Operation.{Operation}
 use Rattle.rules.specs.declared.Answer.{Answer}
 use Rattle.rules.specs.declared.Effect.{Effect}
@@ -20,6 +20,18 @@ use Rattle.rules.proofs.Places.{take-empties, move-empties}
 use Rattle.rules.proofs.Always.{slot-room}
 
 -- ---- SEND
+
+-- a capability does not go without GRANT
+ungranted : (s : State) (d x c w0 w1 w2 w3 : ℕ) → slotFor s d x MAILBOX WRITE ≡ 0 → c < slots → within GRANT (held s d x .rights) ≡ false
+    → send s d x c w0 w1 w2 w3 .answer .status ≡ 5
+unfolding send conclude _then_else_
+ungranted s d x c w0 w1 w2 w3 h l g = rw (h, le-leb c slots (omega arith), lt-ltb c slots l, g)
+
+pub send-needs-grant : SendNeedsGrant
+unfolding answer decide decided
+send-needs-grant s o e h l g =
+    subst (λ n. decided s (whose s) n o .answer .status ≡ 5) (sym e)
+    (ungranted s (whose s) (o .first) (o .second) (o .third) (o .fourth) (o .fifth) (o .sixth) h l g)
 
 -- a decision to send leaves a message with badge b in mailbox m
 abbrev Badged : State → ℕ → ℕ → Effect → Answer → Type 0

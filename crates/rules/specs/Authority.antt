@@ -96,6 +96,11 @@ abbrev pub ReusedIsFresh : Type 0
 ReusedIsFresh = (b : List ℕ) (s : State) → Reached b s → (o : Operation) (p q : ℕ) → s .capability p .kind ≡ 0
     → Derived (next s o .capability) p q → ⊥
 
+-- a SEND of a capability over a mailbox without GRANT is refusal 5, whatever the mailbox holds
+abbrev pub SendNeedsGrant : Type 0
+SendNeedsGrant = (s : State) (o : Operation) → named (o .number) ≡ SEND → slotFor s (whose s) (o .first) MAILBOX WRITE ≡ 0
+    → o .second < slots → within GRANT (held s (whose s) (o .first) .rights) ≡ false → answer s o .status ≡ 5
+
 -- SEND leaves a message with the badge of slot s in its mailbox, whatever goes along
 abbrev pub SendBadge : Type 0
 SendBadge = (s : State) (o : Operation) → named (o .number) ≡ SEND → answer s o .status ≡ 0
@@ -107,7 +112,7 @@ pub record Received (t : State) (a : Answer) (m : ℕ) : Type 0 where
   pub message : t .message m ≡ noMessage
   pub underWay : t .capability (room m) ≡ nothing
 
--- a message that is there is received whatever slot t holds: one that is taken is no refusal, and keeps nothing in the mailbox
+-- a message that is there is received whatever slot t holds: where t is taken there is no refusal, and nothing stays in the mailbox
 abbrev pub ReceiveEmpties : Type 0
 ReceiveEmpties = (b : List ℕ) (s : State) → Reached b s → (o : Operation) → named (o .number) ≡ RECEIVE
     → slotFor s (whose s) (o .first) MAILBOX READ ≡ 0 → o .second ≤ slots
