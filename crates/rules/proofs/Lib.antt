@@ -21,4 +21,5 @@ pub mod Outside
 pub mod Inside
 pub mod Table
 pub mod Promise
+pub mod Certificate
 pub mod Worked

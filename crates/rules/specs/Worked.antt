@@ -1,11 +1,16 @@
--- The worked example of document 01, section 6, and of document 03, section 2: the image's bytes, the 22 turns, what the fifteenth
--- removes, and the table of flows, as the documents print them. proofs/Worked.antt proves each by computation. Assumes nothing.
+-- The worked example of document 01, section 6, and of document 03, sections 2 and 3: the image's bytes, the 22 turns, what the fifteenth
+-- removes, the table of flows and the closed sets, as the documents print them, and what holds of each. proofs/Worked.antt has the proofs,
+-- under the statements' names in small letters. Assumes nothing.
+use mathlib.Core.Path.{_≡_}
 use mathlib.Core.Bool.{Bool, true, false}
-use mathlib.Core.List.{List, [], _∷_, map}
+use mathlib.Core.List.{List, [], _∷_, map, List·Memᴰ}
+use mathlib.Core.Logic.{_↔_}
 use Prim.Native.Nat.{ℕ}
-use lib.ListN.{getD}
-use Rattle.rules.specs.State.{State, slot, whose}
-use Rattle.rules.specs.Turn.{answer, next}
+use lib.ListN.{getD, take}
+use Rattle.rules.specs.State.{State, Places, Holds, slot, nothing, whose}
+use Rattle.rules.specs.Turn.{answer, next, after}
+use Rattle.rules.specs.Image.{imageOf, boot, read, accepted, write, image}
+use Rattle.rules.specs.Flow.{Flow, Closed}
 use Rattle.rules.specs.declared.Operation.{Operation}
 use Rattle.rules.specs.declared.Answer.{Answer}
 
@@ -85,21 +90,57 @@ abbrev pub played : State → List Operation → List Row
 played s [] = []
 played s (o ∷ os) = record { domain = whose s; operation = o; answer = answer s o } ∷ played (next s o) os
 
--- the turns before the fifteenth
-abbrev pub fourteen : ℕ
-fourteen = 14
+-- the bytes are accepted, what was read is written back, and the turns give those rows
+abbrev pub BytesAccepted : Type 0
+BytesAccepted = read bytes ≡ accepted (boot (imageOf bytes))
 
--- what the fifteenth turn removes: slot 0 of billing (1), and slots 9 and 10 of metering (0)
+abbrev pub BytesWritten : Type 0
+BytesWritten = write (boot (imageOf bytes)) ≡ image bytes
+
+abbrev pub RowsPlayed : Type 0
+RowsPlayed = played (boot (imageOf bytes)) (operations rows) ≡ rows
+
+-- the state after the first n turns
+abbrev pub stateAfter : ℕ → State
+stateAfter n = after (boot (imageOf bytes)) (take n (operations rows))
+
+-- what the fifteenth turn removes: slots 9 and 10 of metering (0), and slot 0 of billing (1)
 abbrev pub removed : List ℕ
 removed = slot 0 9 ∷ slot 0 10 ∷ slot 1 0 ∷ []
 
+-- what stands before and after: the places of the list held a capability and hold nothing now, and every other place is as it was
+pub record Removes (before now : Places) (ps : List ℕ) : Type 0 where
+  pub held : (q : ℕ) → List·Memᴰ q ps → Holds before q
+  pub gone : (q : ℕ) → List·Memᴰ q ps → now q ≡ nothing
+  pub kept : (q : ℕ) → (List·Memᴰ q ps → ⊥) → now q ≡ before q
+
+-- the fifteenth turn removes those; slot 0 of metering stays
+abbrev pub FifteenthRemoves : Type 0
+FifteenthRemoves = Removes (stateAfter 14 .capability) (stateAfter 15 .capability) removed × Holds (stateAfter 15 .capability) (slot 0 0)
+
 -- document 03: from whom (rows) to whom (columns)
+abbrev pub fromMetering : List Bool
+fromMetering = true ∷ true ∷ true ∷ true ∷ []
+
+abbrev pub fromBilling : List Bool
+fromBilling = false ∷ true ∷ true ∷ true ∷ []
+
+abbrev pub fromProgram : List Bool
+fromProgram = false ∷ true ∷ true ∷ true ∷ []
+
+abbrev pub fromModem : List Bool
+fromModem = false ∷ true ∷ true ∷ true ∷ []
+
 abbrev pub flows : List (List Bool)
-flows =
-    (true ∷ true ∷ true ∷ true ∷ [])
-    ∷ (false ∷ true ∷ true ∷ true ∷ [])
-    ∷ (false ∷ true ∷ true ∷ true ∷ [])
-    ∷ (false ∷ true ∷ true ∷ true ∷ []) ∷ []
+flows = fromMetering ∷ fromBilling ∷ fromProgram ∷ fromModem ∷ []
+
+-- what the table says of a flow from a to b: no where a or b is no domain
+abbrev pub told : ℕ → ℕ → Bool
+told a b = getD (getD flows a []) b false
+
+-- the table says yes exactly where there is flow
+abbrev pub FlowsExactly : Type 0
+FlowsExactly = (a b : ℕ) → (told a b ≡ true) ↔ Flow (imageOf bytes) a b
 
 -- in the example the closed sets are: none, {0}, and all four
 abbrev pub closedSets : List (List Bool)
@@ -107,3 +148,7 @@ closedSets =
     (false ∷ false ∷ false ∷ false ∷ [])
     ∷ (true ∷ false ∷ false ∷ false ∷ [])
     ∷ (true ∷ true ∷ true ∷ true ∷ []) ∷ []
+
+-- a set of domains is closed exactly where it is one of them
+abbrev pub ClosedExactly : Type 0
+ClosedExactly = (L : ℕ → Bool) → Closed (imageOf bytes) L ↔ List·Memᴰ (L 0 ∷ L 1 ∷ L 2 ∷ L 3 ∷ []) closedSets
