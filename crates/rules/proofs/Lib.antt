@@ -21,5 +21,6 @@ pub mod Outside
 pub mod Inside
 pub mod Table
 pub mod Promise
+pub mod All
 pub mod Certificate
 pub mod Worked
