@@ -8,7 +8,6 @@ use native.Mathlib.Omega.{arith}
 use native.Mathlib.Nat.{eq-or-lt-of-le, le-of-suc-le-suc}
 use lib.Dec.{eqb, eqb·suc-zero}
 use borrow.Author.Tests.{eqb-true, eqb-false, eq-eqb}
-use Rattle.rules.specs.Sizes.{places}
 use Rattle.rules.specs.State.{Places, Holds, Source, Derived, direct, further, comesTo, derivedFrom}
 use Rattle.rules.specs.Authority.{TestIsDerived}
 use Rattle.rules.proofs.Laws.{either, decided-by, not-both}
@@ -153,6 +152,6 @@ module _ (at : Places) (n : ℕ) (held : (p q : ℕ) → Source at p q → Holds
 pub test-is-derived : TestIsDerived
 unfolding derivedFrom
 test-is-derived s f a p q = (
-  comes-derived (s .capability) places p q _ refl,
-  derived-found (s .capability) places (λ p q. a .held) (f .placesOnly) (λ p. a .noReturn) p q,
+  comes-derived (s .capability) _ p q _ refl,
+  derived-found (s .capability) _ (λ p q. a .held) (f .placesOnly) (λ p. a .noReturn) p q,
 )

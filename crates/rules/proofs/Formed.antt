@@ -16,7 +16,7 @@ use Rattle.rules.specs.declared.Capability.{Capability}
 use Rattle.rules.specs.declared.Message.{Message}
 use Rattle.rules.specs.declared.Effect.{Effect}
 use Rattle.rules.proofs.Laws.{set-each, set-here, set-there, within-trans, within-refl}
-use Rattle.rules.proofs.Places.{same?, resourced, each-dropped, each-pruned}
+use Rattle.rules.proofs.Places.{same?, resourced, take-empties, move-empties, each-dropped, each-pruned}
 use Rattle.rules.proofs.Licence.{Has, Owns, Free, Licence, nothing-done, stores, rings, hushes, puts, drops, prunes, posts, sends, takes, gets}
 use Rattle.rules.proofs.Section4.{dropped-alike}
 use Rattle.rules.proofs.Always.{Made, derived-made, copied-made, slot-room}
@@ -197,11 +197,11 @@ module _ {s : State} (f : Formed s) where
   formed-kept d h e (sends {x} {c} o g a z) =
       formed-mail _ _ _ (set-each At (s .capability) _ _ at-each (at-room _ (owned-box o) (made-formed h a (copied-made _ _)))) (mail-new o) (rooms-apart _ _)
   formed-kept d h e (takes {x} o) =
-      formed-mail _ _ _ (set-each At (s .capability) _ _ at-each (at-nothing _)) (mail-none (ap (λ c. c .kind) (set-here (s .capability) _ _))) (rooms-apart _ _)
+      formed-mail _ _ _ (set-each At (s .capability) _ _ at-each (at-nothing _)) (mail-none (ap (λ c. c .kind) (take-empties s _))) (rooms-apart _ _)
   formed-kept d h e (gets {x} {t} o u g) =
       formed-mail _ _ _
       (set-each At _ (slot d t) _ (set-each At (s .capability) _ _ at-each (at-nothing _)) (at-slot d t h (g .inRange) (f .capability _ u)))
-      (mail-none (ap (λ c. c .kind) (set-there _ (slot d t) _ (room _) (away _) ∙ set-here (s .capability) _ _)))
+      (mail-none (ap (λ c. c .kind) (move-empties s _ (slot d t) (away _))))
       (λ n k. set-there _ (slot d t) _ (room n) (away n) ∙ rooms-apart _ _ n k)
     where
       away : (m : ℕ) → room m ≡ slot d t → ⊥

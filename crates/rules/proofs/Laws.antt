@@ -47,6 +47,15 @@ passes zero true n h = (refl, refl)
 passes zero false n h = absurd (omega arith)
 passes (suc e) b n h = absurd (omega arith)
 
+-- a decision that refuses has no effect, and an answer with no words
+abbrev pub Leaves : Decision → Type 0
+Leaves d = (d .answer .status ≡ 0 → ⊥) → (d .effect ≡ Nothing) × (d .answer ≡ refusal (d .answer .status))
+
+pub leaves : (e : ℕ) (f : Effect) (a : Answer) → a .status ≡ 0 → Leaves (conclude e f a)
+unfolding conclude
+leaves zero f a z h = absurd (h z)
+leaves (suc e) f a z h = (refl, refl)
+
 -- what P needs of a decision's effect: it holds of no effect, and of f where no check refused
 pub concluded : (P : Effect → Type 0) (e : ℕ) (f : Effect) (a : Answer) → P Nothing → (e ≡ 0 → P f) → P (conclude e f a .effect)
 unfolding conclude

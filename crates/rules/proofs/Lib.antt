@@ -10,7 +10,9 @@ pub mod Formed
 pub mod Given
 pub mod Bootable
 pub mod Revoke
+pub mod Apart
 pub mod Confinement
+pub mod Mail
 pub mod Reached
 pub mod History
 pub mod Followed
@@ -19,5 +21,6 @@ pub mod Outside
 pub mod Inside
 pub mod Table
 pub mod Promise
+pub mod All
 pub mod Certificate
 pub mod Worked

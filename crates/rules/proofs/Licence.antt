@@ -1,18 +1,19 @@
 -- What licenses an effect: the checks of document 01, section 3, walked once. Whatever an operation of domain d does in state s, d
 -- holds the capabilities for it. Invariants go by cases on licences and never on checks. Assumes nothing.
-use mathlib.Core.Path.{_≡_, refl, subst}
+use mathlib.Core.Path.{_≡_, refl, ap, subst}
 use mathlib.Core.Bool.{Bool, true, false, cond, not, _&&_, _||_}
 use Prim.Native.Nat.{ℕ, zero, suc, _≤_, _<_}
 use lib.Dec.{eqb, leb, ltb}
 use borrow.Author.Tests.{ltb-true, leb-true, eqb-true}
 use Rattle.rules.specs.Sizes.{slots, frameWords, badgeMost}
-use Rattle.rules.specs.State.{State, FRAME, MAILBOX, BELL, READ, WRITE, GRANT, within, slot, room, nothing, Holds}
-use Rattle.rules.specs.Turn.{_then_else_, held, holds, full, anySlot, slotFor, words, conclude, load, store, derived, derive, delete, revoke, ring, hear, copied, goes, send, moves, receive, look, Name, IDLE, LOAD, STORE, DERIVE, DELETE, REVOKE, RING, HEAR, SEND, RECEIVE, LOOK, unknown, named, decided, decide}
+use Rattle.rules.specs.State.{State, FRAME, MAILBOX, BELL, READ, WRITE, GRANT, within, slot, room, nothing, whose, Holds}
+use Rattle.rules.specs.Turn.{_then_else_, held, holds, full, anySlot, slotFor, words, conclude, load, store, derived, derive, delete, revoke, ring, hear, copied, goes, send, moves, receive, look, Name, IDLE, LOAD, STORE, DERIVE, DELETE, REVOKE, RING, HEAR, SEND, RECEIVE, LOOK, unknown, named, decided, decide, apply, advance, next, answer}
+use Rattle.rules.specs.Authority.{RefusalLeaves}
 use Rattle.rules.specs.declared.Message.{Message}
 use Rattle.rules.specs.declared.Operation.{Operation}
 use Rattle.rules.specs.declared.Effect.{Effect}
 use Rattle.rules.specs.declared.Effect.the-variants.{Nothing, Store, Ring, Hush, Put, Drop, Prune, Post, Take, Move}
-use Rattle.rules.proofs.Laws.{both, flips, passes, concluded, present-true, present-false}
+use Rattle.rules.proofs.Laws.{both, flips, passes, Leaves, leaves, concluded, present-true, present-false}
 
 -- slot x of domain d holds a capability
 pub record Has (s : State) (d x : ℕ) : Type 0 where
@@ -118,6 +119,30 @@ module _ (s : State) (d : ℕ) where
   pub licensed : (o : Operation) → Licence s d (decide s d o .effect)
   unfolding decide
   licensed o = by-name (named (o .number)) o
+
+-- ---- refusals
+
+leaves-by-name : (s : State) (d : ℕ) (n : Name) (o : Operation) → Leaves (decided s d n o)
+unfolding decided load store derive delete revoke ring hear send receive look
+leaves-by-name s d IDLE o = leaves _ _ _ refl
+leaves-by-name s d LOAD o = leaves _ _ _ refl
+leaves-by-name s d STORE o = leaves _ _ _ refl
+leaves-by-name s d DERIVE o = leaves _ _ _ refl
+leaves-by-name s d DELETE o = leaves _ _ _ refl
+leaves-by-name s d REVOKE o = leaves _ _ _ refl
+leaves-by-name s d RING o = leaves _ _ _ refl
+leaves-by-name s d HEAR o = leaves _ _ _ refl
+leaves-by-name s d SEND o = leaves _ _ _ refl
+leaves-by-name s d RECEIVE o = leaves _ _ _ refl
+leaves-by-name s d LOOK o = leaves _ _ _ refl
+leaves-by-name s d unknown o = leaves _ _ _ refl
+
+-- a refusal leaves everything but the position as it was, and the words of its answer are all 0
+pub refusal-leaves : RefusalLeaves
+unfolding next answer decide apply
+refusal-leaves s o h =
+    let (e, a) = leaves-by-name s (whose s) (named (o .number)) o h in
+    (ap (λ x. advance (apply s x)) e, a)
 
 -- what an effect needs of the places and mailboxes that it fills or empties
 abbrev pub Need : State → Effect → Type 0

@@ -1,14 +1,17 @@
--- What an effect does to the places: a capability set, a place dropped, what is derived from a place pruned. An invariant of the shape
--- 'each place, with what it holds, satisfies Q' goes through the last two here, and through the first by set-each. Assumes nothing.
+-- What an effect does to the places: a capability set, a place dropped, what is derived from a place pruned, a mailbox emptied. An
+-- invariant of the shape 'each place, with what it holds, satisfies Q' goes through a drop and a pruning here, and through a setting by
+-- set-each. Assumes nothing.
 use mathlib.Core.Path.{_≡_, refl, sym, ap, _∙_, subst}
 use mathlib.Core.Bool.{Bool, true, false, cond}
 use mathlib.Core.Logic.{_⊎_, inl, inr}
 use Prim.Native.Nat.{ℕ, zero, suc, _≤_, _<_}
 use lib.Dec.{eqb}
 use borrow.Author.Tests.{eqb-true, eqb-false, eq-eqb, ne-eqb}
-use Rattle.rules.specs.State.{State, Places, nothing, Holds, Source, derivedFrom}
-use Rattle.rules.specs.Turn.{dropped, pruned}
+use Rattle.rules.specs.State.{State, Places, room, nothing, Holds, Source, derivedFrom}
+use Rattle.rules.specs.Turn.{dropped, pruned, apply}
 use Rattle.rules.specs.declared.Capability.{Capability}
+use Rattle.rules.specs.declared.Effect.the-variants.{Take, Move}
+use Rattle.rules.proofs.Laws.{set-here, set-there}
 
 -- two places are the same or not
 pub same? : (a b : ℕ) → (a ≡ b) ⊎ (a ≡ b → ⊥)
@@ -27,16 +30,15 @@ module _ (at : Places) (p : ℕ) where
   unfolding dropped
   dropped-here = rw (eq-eqb p p refl)
 
-  -- another place's source moves on where it was p
-  pub dropped-there : (q : ℕ) → (q ≡ p → ⊥) → dropped at p q ≡ resourced (at q) (cond (eqb (at q .source) (suc p)) (at p .source) (at q .source))
-  unfolding dropped
-  dropped-there q h = rw (ne-eqb q p h)
-
+  -- whatever had p as its source gets p's source instead
   pub dropped-child : (q : ℕ) → (q ≡ p → ⊥) → Source at p q → dropped at p q ≡ resourced (at q) (at p .source)
-  dropped-child q h e = dropped-there q h ∙ ap (λ t. resourced (at q) (cond t (at p .source) (at q .source))) (eq-eqb _ _ e)
+  unfolding dropped
+  dropped-child q h e = rw (ne-eqb q p h, eq-eqb _ _ e)
 
+  -- any other place is as it was
   pub dropped-other : (q : ℕ) → (q ≡ p → ⊥) → (Source at p q → ⊥) → dropped at p q ≡ at q
-  dropped-other q h e = dropped-there q h ∙ ap (λ t. resourced (at q) (cond t (at p .source) (at q .source))) (ne-eqb _ _ e)
+  unfolding dropped
+  dropped-other q h e = rw (ne-eqb q p h, ne-eqb _ _ e)
 
   pub pruned-gone : (q : ℕ) → derivedFrom at p q ≡ true → pruned at p q ≡ nothing
   unfolding pruned
@@ -45,6 +47,17 @@ module _ (at : Places) (p : ℕ) where
   pub pruned-kept : (q : ℕ) → derivedFrom at p q ≡ false → pruned at p q ≡ at q
   unfolding pruned
   pruned-kept q h = rw h
+
+-- ---- RECEIVE leaves nothing under way in its mailbox
+
+module _ (s : State) (m : ℕ) where
+  pub take-empties : apply s (Take m) .capability (room m) ≡ nothing
+  unfolding apply
+  take-empties = set-here (s .capability) (room m) _
+
+  pub move-empties : (p : ℕ) → (room m ≡ p → ⊥) → apply s (Move m p) .capability (room m) ≡ nothing
+  unfolding apply
+  move-empties p h = set-there _ p _ (room m) h ∙ set-here (s .capability) (room m) _
 
 -- ---- each place, with what it holds, satisfies Q
 

@@ -23,8 +23,8 @@ use Rattle.rules.proofs.Bootable.{accepted-exactly}
 use Rattle.rules.proofs.Confinement.{could}
 use Rattle.rules.proofs.Reached.{formed-always, confinement}
 use Rattle.rules.proofs.View.{Alike, set-both, Seen, View, Tied, Tie, Able, view-refl, view-carried, advanced, ours-slot, seen-slot, drawn}
-use Rattle.rules.proofs.Outside.{untied, tied-to, tie-kept, outside}
 use Rattle.rules.proofs.Inside.{same-decision, inside-kept}
+use Rattle.rules.proofs.Outside.{untied, tied-to, tie-kept, outside}
 use Rattle.rules.proofs.Table.{turns-by-table}
 
 -- ---- boot

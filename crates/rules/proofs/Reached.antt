@@ -1,10 +1,12 @@
--- What holds of every reached state, from the image on: sections 1, 2 and 4 of document 01, what REVOKE and DELETE do, and confinement.
+-- What holds of every reached state, from the image on: sections 1, 2 and 4 of document 01, what REVOKE, DELETE and RECEIVE do, and
+-- confinement.
 -- Assumes nothing.
 use mathlib.Core.Path.{_≡_, refl, sym, ap, _∙_, subst}
 use mathlib.Core.Bool.{Bool, true, false, cond}
 use mathlib.Core.List.{List, List·Memᴰ}
 use Prim.Native.Nat.{ℕ, zero, suc, _+_, _≤_, _<_}
 use native.Mathlib.Omega.{arith}
+use native.Mathlib.Nat.{le-trans}
 use lib.Dec.{eqb}
 use lib.ListN.{length, getD}
 use borrow.Author.Tests.{eqb-true, eqb-false}
@@ -12,7 +14,7 @@ use Rattle.rules.specs.State.{State, slot, room, whose, Derived, Section
 use Rattle.rules.specs.Turn.{apply, advance, next, decide}
 use Rattle.rules.specs.Image.{Bytes, Entry, Image, refusalOf, imageOf, capabilityOf, given, boot}
 use Rattle.rules.specs.Flow.{tripleOf, image}
-use Rattle.rules.specs.Authority.{Reached, booted, turned, Section4Always, FormedAlways, NeverMore, RevokeExactly, DeleteKeeps, ReusedIsFresh, Covered, Confined, Confinement}
+use Rattle.rules.specs.Authority.{Reached, booted, turned, Section4Always, FormedAlways, NeverMore, RevokeExactly, DeleteKeeps, ReusedIsFresh, ReceiveEmpties, Covered, Confined, Confinement}
 use Rattle.rules.specs.declared.Operation.{Operation}
 use Rattle.rules.proofs.Laws.{passes, within-refl}
 use Rattle.rules.proofs.Licence.{licensed}
@@ -22,6 +24,7 @@ use Rattle.rules.proofs.Formed.{formed-kept, whose-low}
 use Rattle.rules.proofs.Given.{given-from, FormRight, form-right}
 use Rattle.rules.proofs.Bootable.{held-below, boot-section4, boot-formed}
 use Rattle.rules.proofs.Revoke.{revoked, revoking, deleted, deleting, fresh}
+use Rattle.rules.proofs.Mail.{receive-empty}
 use Rattle.rules.proofs.Confinement.{confined-next}
 
 -- what an entry gives, its domain could hold
@@ -81,6 +84,9 @@ delete-keeps b s r o e h = deleted (sound r) o _ (deleting s o e h)
 
 pub reused-is-fresh : ReusedIsFresh
 reused-is-fresh b s r o p q = fresh (sound r) o p q
+
+pub receive-empties : ReceiveEmpties
+receive-empties b s r o e h k g = let f = sound r .formed in receive-empty s (le-trans (whose-low f) (f .domains .1)) o e h k g
 
 -- ---- confinement
 

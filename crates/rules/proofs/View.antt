@@ -58,12 +58,20 @@ pub data Seen (i : Image) (L : ℕ → Bool) (q : ℕ) : Type 0 where
   own : Ours L q → Seen i L q
   mail : {m : ℕ} → q ≡ room m → Mailbox i L m → Seen i L q
 
+-- the places that L sees hold the same, sources and all
+abbrev pub SamePlaces : Image → (ℕ → Bool) → Places → Places → Type 0
+SamePlaces i L at at′ = (q : ℕ) → Seen i L q → at q ≡ at′ q
+
+-- the mailboxes that L sees hold the same messages, badges and all
+abbrev pub SameMail : Image → (ℕ → Bool) → (ℕ → Message) → (ℕ → Message) → Type 0
+SameMail i L f g = (m : ℕ) → Mailbox i L m → f m ≡ g m
+
 -- s and t look the same to L
 pub record View (i : Image) (L : ℕ → Bool) (s t : State) : Type 0 where
-  pub capability : Alike (Seen i L) (s .capability) (t .capability)
+  pub capability : SamePlaces i L (s .capability) (t .capability)
   pub word : (f : ℕ) → Frame i L f → (w : ℕ) → s .word f w ≡ t .word f w
   pub bell : Alike (Bell i L) (s .bell) (t .bell)
-  pub message : Alike (Mailbox i L) (s .message) (t .message)
+  pub message : SameMail i L (s .message) (t .message)
 
 -- a source number names a slot of a domain in L, or nothing
 abbrev pub Tied : (ℕ → Bool) → ℕ → Type 0
@@ -107,11 +115,11 @@ module _ {i : Image} {L : ℕ → Bool} where
         → View i L (changed s (s .capability) (s .word) f (s .message)) (changed t (t .capability) (t .word) g (t .message))
     rung h = record { capability = v .capability; word = v .word; bell = h; message = v .message }
 
-    pub mailed : {at at′ : Places} {f g : ℕ → Message} → Alike (Seen i L) at at′ → Alike (Mailbox i L) f g
+    pub mailed : {at at′ : Places} {f g : ℕ → Message} → SamePlaces i L at at′ → SameMail i L f g
         → View i L (withMail s at f) (withMail t at′ g)
     mailed h k = record { capability = h; word = v .word; bell = v .bell; message = k }
 
-    pub placed : {at at′ : Places} → Alike (Seen i L) at at′ → View i L (withPlaces s at) (withPlaces t at′)
+    pub placed : {at at′ : Places} → SamePlaces i L at at′ → View i L (withPlaces s at) (withPlaces t at′)
     placed h = mailed h (v .message)
 
     -- the position is not in the view: it goes by the table alone
@@ -132,7 +140,7 @@ module _ {i : Image} {L : ℕ → Bool} where
   -- ---- chains of sources that start in the view never leave it
 
   -- the test of REVOKE at places that L sees depends on the view alone
-  pub comes-same : (s t : Places) → Alike (Seen i L) s t → Tie i L s → (n a x : ℕ) → Tied L x
+  pub comes-same : (s t : Places) → SamePlaces i L s t → Tie i L s → (n a x : ℕ) → Tied L x
       → comesTo n s a x ≡ comesTo n t a x
   unfolding comesTo
   comes-same s t v tie zero a x h = refl

@@ -4,14 +4,15 @@ use mathlib.Core.Path.{_≡_}
 use mathlib.Core.Bool.{Bool, true, false}
 use mathlib.Core.List.{List, List·Memᴰ}
 use mathlib.Core.Logic.{_↔_}
-use Prim.Native.Nat.{ℕ, _<_}
+use Prim.Native.Nat.{ℕ, _≤_, _<_}
 use Rattle.rules.specs.Sizes.{slots}
-use Rattle.rules.specs.State.{State, Places, MAILBOX, within, slot, room, nothing, whose, Holds, Derived, Fits, Section4, Formed, derivedFrom}
-use Rattle.rules.specs.Turn.{Name, DELETE, REVOKE, named, answer, next}
+use Rattle.rules.specs.State.{State, Places, MAILBOX, READ, WRITE, GRANT, within, slot, room, nothing, noMessage, whose, Holds, Derived, Fits, Section4, Formed, derivedFrom}
+use Rattle.rules.specs.Turn.{held, slotFor, refusal, Name, DELETE, REVOKE, SEND, RECEIVE, named, advance, answer, next}
 use Rattle.rules.specs.Image.{Bytes, Entry, Image, imageOf, sourceless, defines, given, boot, some, formRefusal, refusalOf}
-use Rattle.rules.specs.Flow.{Triple, CouldHold, Reader}
+use Rattle.rules.specs.Flow.{Triple, tripleOf, For, CouldHold, Reader}
 use Rattle.rules.specs.declared.Capability.{Capability}
 use Rattle.rules.specs.declared.Operation.{Operation}
+use Rattle.rules.specs.declared.Answer.{Answer}
 
 -- a state that is reached from the bytes of an accepted image by some sequence of turns
 pub data Reached (b : List ℕ) : State → Type 0 where
@@ -46,6 +47,11 @@ RefusedExactly = (b : List ℕ) → formRefusal b ≡ 0 → (refusalOf b ≡ 26)
 abbrev pub NeverMore : Type 0
 NeverMore = (b : List ℕ) (s : State) → Reached b s → (p q : ℕ) → Derived (s .capability) p q
     → Fits (s .capability q) (s .capability p)
+
+-- a refusal leaves everything but the position as it was, and the words of its answer are all 0
+abbrev pub RefusalLeaves : Type 0
+RefusalLeaves = (s : State) (o : Operation) → (answer s o .status ≡ 0 → ⊥)
+    → (next s o ≡ advance s) × (answer s o ≡ refusal (answer s o .status))
 
 -- t is s but for the places and the position
 pub record OnlyPlaces (s t : State) : Type 0 where
@@ -90,6 +96,29 @@ abbrev pub ReusedIsFresh : Type 0
 ReusedIsFresh = (b : List ℕ) (s : State) → Reached b s → (o : Operation) (p q : ℕ) → s .capability p .kind ≡ 0
     → Derived (next s o .capability) p q → ⊥
 
+-- a SEND of a capability over a mailbox without GRANT is refusal 5, whatever the mailbox holds
+abbrev pub SendNeedsGrant : Type 0
+SendNeedsGrant = (s : State) (o : Operation) → named (o .number) ≡ SEND → slotFor s (whose s) (o .first) MAILBOX WRITE ≡ 0
+    → o .second < slots → within GRANT (held s (whose s) (o .first) .rights) ≡ false → answer s o .status ≡ 5
+
+-- SEND leaves a message with the badge of slot s in its mailbox, whatever goes along
+abbrev pub SendBadge : Type 0
+SendBadge = (s : State) (o : Operation) → named (o .number) ≡ SEND → answer s o .status ≡ 0
+    → next s o .message (held s (whose s) (o .first) .object) .badge ≡ held s (whose s) (o .first) .badge
+
+-- RECEIVE from mailbox m: no refusal, and the mailbox is empty, with nothing under way
+pub record Received (t : State) (a : Answer) (m : ℕ) : Type 0 where
+  pub status : a .status ≡ 0
+  pub message : t .message m ≡ noMessage
+  pub underWay : t .capability (room m) ≡ nothing
+
+-- a message that is there is received whatever slot t holds: where t is taken there is no refusal, and nothing stays in the mailbox
+abbrev pub ReceiveEmpties : Type 0
+ReceiveEmpties = (b : List ℕ) (s : State) → Reached b s → (o : Operation) → named (o .number) ≡ RECEIVE
+    → slotFor s (whose s) (o .first) MAILBOX READ ≡ 0 → o .second ≤ slots
+    → (s .message (held s (whose s) (o .first) .object) .full ≡ 0 → ⊥)
+    → Received (next s o) (answer s o) (held s (whose s) (o .first) .object)
+
 -- domain d could hold a triple with the kind and object of c and at least its rights
 pub record Covered (i : Image) (d : ℕ) (c : Capability) : Type 0 where
   pub triple : Triple
@@ -105,3 +134,10 @@ pub record Confined (i : Image) (s : State) : Type 0 where
 
 abbrev pub Confinement : Type 0
 Confinement = (b : List ℕ) (s : State) → Reached b s → Confined (imageOf b) s
+
+-- WRITE in one triple and GRANT in another is not enough for rule 2: where the image gives no domain a mailbox with both, each domain
+-- could hold what the image gives it, and nothing else
+abbrev pub ApartIsNotEnough : Type 0
+ApartIsNotEnough = (i : Image)
+    → ((m : ℕ) (e : Entry) → List·Memᴰ e (i .entries) → For MAILBOX m WRITE (tripleOf e) → For MAILBOX m GRANT (tripleOf e) → ⊥)
+    → (d : ℕ) (t : Triple) → CouldHold i d t → (e : Entry) × List·Memᴰ e (i .entries) × (e .domain ≡ d) × (tripleOf e ≡ t)
