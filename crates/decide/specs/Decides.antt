@@ -1,0 +1,67 @@
+-- The contracts of the checks: what looking a slot up gives, and what a decision is. Assumes nothing.
+use mathlib.Core.Path.{_≡_}
+use mathlib.Core.Bool.{cond, not, _||_}
+use lib.Dec.{leb}
+use Prim.Native.Nat.{ℕ, _+_, _*_, _^_, _≤_, _<_}
+use Rattle.rules.specs.Sizes.{slots}
+use Rattle.rules.specs.State.{State, GRANT, within, slot, nothing}
+use Rattle.rules.specs.Turn.{_then_else_, held, holds, goes, copied, moves, words, refusal, Name, IDLE, LOAD, STORE, DERIVE, DELETE, REVOKE, RING, HEAR, SEND, RECEIVE, LOOK, unknown}
+use Rattle.rules.specs.declared.Message.{Message}
+use Rattle.rules.specs.declared.Operation.{Operation}
+use Rattle.rules.specs.declared.Effect.{Effect}
+use Rattle.rules.specs.declared.Effect.the-variants.{Nothing, Take, Move}
+use Rattle.rules.specs.declared.Decision.{Decision}
+use Rattle.decide.specs.declared.Decided.{Decided}
+use Rattle.decide.specs.declared.look.Looked.{Looked}
+use Rattle.decide.specs.declared.mail.Taken.{Taken}
+
+-- refusal n; an effect with status 0 and one word
+abbrev pub refusedBy : ℕ → Decision
+refusedBy n = record { effect = Nothing; answer = refusal n }
+
+abbrev pub doneBy : Effect → ℕ → Decision
+doneBy f w = record { effect = f; answer = words w 0 0 0 0 0 }
+
+-- the message of a SEND
+abbrev pub messageOf : Operation → ℕ → Message
+messageOf o badge = record { full = 1; badge = badge; w0 = o .third; w1 = o .fourth; w2 = o .fifth; w3 = o .sixth }
+
+-- how many places the checks of an operation look at, at most
+abbrev pub looks : Name → ℕ
+looks IDLE = 0
+looks LOAD = 1
+looks STORE = 1
+looks DERIVE = 2
+looks DELETE = 1
+looks REVOKE = 1
+looks RING = 1
+looks HEAR = 1
+looks SEND = 2
+looks RECEIVE = 3
+looks LOOK = 1
+looks unknown = 0
+
+-- the decision is x, and at most so many places were visited for it
+pub record Decides (r : Decided) (x : Decision) (most : ℕ) : Type 0 where
+  pub decision : r .decision ≡ x
+  pub visits : r .visits ≤ most
+
+-- slot x of domain d was looked up with checks that come to refusal e, after so many visits
+pub record Looks (r : Looked) (s : State) (d x e before : ℕ) : Type 0 where
+  pub refusal : r .refusal ≡ e
+  pub capability : r .refusal ≡ 0 → r .capability ≡ held s d x
+  -- where nothing was refused x is a slot
+  pub slot : x < slots + 2 ^ 32 * r .refusal
+  pub visits : r .visits ≤ before + 1
+
+-- the checks of SEND's argument c, by a capability with those rights, came to what goes along, after so many visits
+pub record Carries (r : Looked) (s : State) (d c rights before : ℕ) : Type 0 where
+  pub refusal : r .refusal ≡ (0 then leb c slots else 2 then not (goes c) || within GRANT rights else 5 then not (goes c) || holds (held s d c) else 3)
+  pub capability : r .refusal ≡ 0 → r .capability ≡ cond (goes c) (copied (held s d c) (slot d c)) nothing
+  pub visits : r .visits ≤ before + 1
+
+-- mailbox m was emptied by domain d with slot t for a capability under way, after so many visits
+pub record Takes (r : Taken) (s : State) (d m t before : ℕ) : Type 0 where
+  pub effect : r .effect ≡ cond (moves s d m t) (Move m (slot d t)) (Take m)
+  pub flag : r .flag ≡ cond (moves s d m t) 1 0
+  pub visits : r .visits ≤ before + 2

@@ -1,0 +1,165 @@
+// The operations on frames, bells and a domain's own slots.
+use crate::Decided;
+use crate::look::any_slot;
+use crate::look::done;
+use crate::look::refused;
+use crate::look::slot_for;
+use rules::Answer;
+use rules::Capability;
+use rules::Decision;
+use rules::Effect;
+
+ghost use mathlib.Core.Path.{_≡_};
+ghost use mathlib.Core.Bool.{cond};
+ghost use Prim.Native.Nat.{_≤_, _<_};
+ghost use lib.Dec.{eqb};
+ghost use Rattle.rules.specs.Sizes.{domainsMost, allSlots};
+ghost use Rattle.rules.specs.Turn.{load as loadRule, store as storeRule, derived as derivedRule, derive as deriveRule, delete as deleteRule, revoke as revokeRule, ring as ringRule, hear as hearRule, look as lookRule};
+ghost use Rattle.layout.specs.Layout.{stateOf, Enough};
+ghost use Rattle.decide.specs.Decides.{Decides, doneBy};
+
+pub fn idle() -> Decided
+    ensures { λ r. ⌜ Decides r (doneBy Effect.Nothing 0) 0 ⌝ }
+{
+    done(Effect::Nothing, 0, 0)
+}
+
+pub fn load(mem: &[u32], d: u32, x: u32, w: u32) -> Decided
+    requires { ⌜ Enough (now mem) ⌝ ∗ ⌜ d < domainsMost ⌝ }
+    ensures { λ r. ⌜ Decides r (loadRule (stateOf (now (mem .entry))) d x w) 1 ⌝ }
+{
+    let k = slot_for(mem, d, x, 1, 1);
+    if k.refusal != 0 {
+        return refused(k.refusal, k.visits);
+    }
+    if w >= 256 {
+        return refused(6, k.visits);
+    }
+    done(Effect::Nothing, layout::word(mem, k.capability.object, w), k.visits)
+}
+
+pub fn store(mem: &[u32], d: u32, x: u32, w: u32, v: u32) -> Decided
+    requires { ⌜ Enough (now mem) ⌝ ∗ ⌜ d < domainsMost ⌝ }
+    ensures { λ r. ⌜ Decides r (storeRule (stateOf (now (mem .entry))) d x w v) 1 ⌝ }
+{
+    let k = slot_for(mem, d, x, 1, 2);
+    if k.refusal != 0 {
+        return refused(k.refusal, k.visits);
+    }
+    if w >= 256 {
+        return refused(6, k.visits);
+    }
+    done(Effect::Store(k.capability.object, w, v), 0, k.visits)
+}
+
+// The badge of c if that isn't 0, else b.
+fn badge(c: u32, b: u32) -> u32
+    ensures { λ r. ⌜ r ≡ cond (eqb c 0) b c ⌝ }
+{
+    if c == 0 { b } else { c }
+}
+
+// What DERIVE makes of c, which stands at that place.
+fn derived(c: Capability, place: u32, r: u32, b: u32) -> Capability
+    requires { ⌜ place < allSlots ⌝ }
+    ensures { λ x. ⌜ x ≡ derivedRule c place r b ⌝ }
+{
+    Capability {
+        kind: c.kind,
+        rights: c.rights & r,
+        object: c.object,
+        badge: badge(c.badge, b),
+        source: place + 1,
+    }
+}
+
+pub fn derive(mem: &[u32], d: u32, x: u32, t: u32, r: u32, b: u32) -> Decided
+    requires { ⌜ Enough (now mem) ⌝ ∗ ⌜ d < domainsMost ⌝ }
+    ensures { λ y. ⌜ Decides y (deriveRule (stateOf (now (mem .entry))) d x t r b) 2 ⌝ }
+{
+    let k = any_slot(mem, d, x, 0);
+    if k.refusal != 0 {
+        return refused(k.refusal, k.visits);
+    }
+    if t >= 64 {
+        return refused(2, k.visits);
+    }
+    let free = layout::see(mem, d * 64 + t, k.visits);
+    if free.capability.kind != 0 {
+        return refused(7, free.visits);
+    }
+    if b > 65535 {
+        return refused(6, free.visits);
+    }
+    done(Effect::Put(d * 64 + t, derived(k.capability, d * 64 + x, r, b)), 0, free.visits)
+}
+
+pub fn delete(mem: &[u32], d: u32, x: u32) -> Decided
+    requires { ⌜ Enough (now mem) ⌝ ∗ ⌜ d < domainsMost ⌝ }
+    ensures { λ r. ⌜ Decides r (deleteRule (stateOf (now (mem .entry))) d x) 1 ⌝ }
+{
+    let k = any_slot(mem, d, x, 0);
+    if k.refusal != 0 {
+        return refused(k.refusal, k.visits);
+    }
+    done(Effect::Drop(d * 64 + x), 0, k.visits)
+}
+
+pub fn revoke(mem: &[u32], d: u32, x: u32) -> Decided
+    requires { ⌜ Enough (now mem) ⌝ ∗ ⌜ d < domainsMost ⌝ }
+    ensures { λ r. ⌜ Decides r (revokeRule (stateOf (now (mem .entry))) d x) 1 ⌝ }
+{
+    let k = any_slot(mem, d, x, 0);
+    if k.refusal != 0 {
+        return refused(k.refusal, k.visits);
+    }
+    done(Effect::Prune(d * 64 + x), 0, k.visits)
+}
+
+pub fn ring(mem: &[u32], d: u32, x: u32) -> Decided
+    requires { ⌜ Enough (now mem) ⌝ ∗ ⌜ d < domainsMost ⌝ }
+    ensures { λ r. ⌜ Decides r (ringRule (stateOf (now (mem .entry))) d x) 1 ⌝ }
+{
+    let k = slot_for(mem, d, x, 3, 2);
+    if k.refusal != 0 {
+        return refused(k.refusal, k.visits);
+    }
+    done(Effect::Ring(k.capability.object, k.capability.badge), 0, k.visits)
+}
+
+pub fn hear(mem: &[u32], d: u32, x: u32) -> Decided
+    requires { ⌜ Enough (now mem) ⌝ ∗ ⌜ d < domainsMost ⌝ }
+    ensures { λ r. ⌜ Decides r (hearRule (stateOf (now (mem .entry))) d x) 1 ⌝ }
+{
+    let k = slot_for(mem, d, x, 3, 1);
+    if k.refusal != 0 {
+        return refused(k.refusal, k.visits);
+    }
+    done(Effect::Hush(k.capability.object), layout::bell(mem, k.capability.object), k.visits)
+}
+
+pub fn look(mem: &[u32], d: u32, x: u32) -> Decided
+    requires { ⌜ Enough (now mem) ⌝ ∗ ⌜ d < domainsMost ⌝ }
+    ensures { λ r. ⌜ Decides r (lookRule (stateOf (now (mem .entry))) d x) 1 ⌝ }
+{
+    let k = any_slot(mem, d, x, 0);
+    if k.refusal != 0 {
+        return refused(k.refusal, k.visits);
+    }
+    let c = k.capability;
+    Decided {
+        decision: Decision {
+            effect: Effect::Nothing,
+            answer: Answer {
+                status: 0,
+                w0: c.kind,
+                w1: c.rights,
+                w2: c.object,
+                w3: c.badge,
+                w4: 0,
+                w5: 0,
+            },
+        },
+        visits: k.visits,
+    }
+}
