@@ -6,7 +6,6 @@ mod plain;
 
 use rules::Decision;
 use rules::Operation;
-
 ghost use mathlib.Core.Path.{_≡_};
 ghost use Prim.Native.Nat.{_≤_, _<_};
 ghost use Rattle.rules.specs.Sizes.{domainsMost};

@@ -4,7 +4,6 @@ use rules::Answer;
 use rules::Capability;
 use rules::Decision;
 use rules::Effect;
-
 ghost use mathlib.Core.Path.{_≡_};
 ghost use Prim.Native.Nat.{_+_, _*_, _≤_, _<_};
 ghost use Rattle.rules.specs.Sizes.{domainsMost};

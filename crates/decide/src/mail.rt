@@ -11,7 +11,6 @@ use rules::Decision;
 use rules::Effect;
 use rules::Message;
 use rules::Operation;
-
 ghost use mathlib.Core.Path.{_≡_};
 ghost use Prim.Native.Nat.{_≤_, _<_};
 ghost use Rattle.rules.specs.Sizes.{domainsMost, allSlots, slots, mailboxes};

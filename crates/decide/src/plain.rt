@@ -8,7 +8,6 @@ use rules::Answer;
 use rules::Capability;
 use rules::Decision;
 use rules::Effect;
-
 ghost use mathlib.Core.Path.{_≡_};
 ghost use mathlib.Core.Bool.{cond};
 ghost use Prim.Native.Nat.{_≤_, _<_};
@@ -35,7 +34,11 @@ pub fn load(mem: &[u32], d: u32, x: u32, w: u32) -> Decided
     if w >= 256 {
         return refused(6, k.visits);
     }
-    done(Effect::Nothing, layout::word(mem, k.capability.object, w), k.visits)
+    done(
+        Effect::Nothing,
+        layout::word(mem, k.capability.object, w),
+        k.visits,
+    )
 }
 
 pub fn store(mem: &[u32], d: u32, x: u32, w: u32, v: u32) -> Decided
@@ -91,7 +94,11 @@ pub fn derive(mem: &[u32], d: u32, x: u32, t: u32, r: u32, b: u32) -> Decided
     if b > 65535 {
         return refused(6, free.visits);
     }
-    done(Effect::Put(d * 64 + t, derived(k.capability, d * 64 + x, r, b)), 0, free.visits)
+    done(
+        Effect::Put(d * 64 + t, derived(k.capability, d * 64 + x, r, b)),
+        0,
+        free.visits,
+    )
 }
 
 pub fn delete(mem: &[u32], d: u32, x: u32) -> Decided
@@ -124,7 +131,11 @@ pub fn ring(mem: &[u32], d: u32, x: u32) -> Decided
     if k.refusal != 0 {
         return refused(k.refusal, k.visits);
     }
-    done(Effect::Ring(k.capability.object, k.capability.badge), 0, k.visits)
+    done(
+        Effect::Ring(k.capability.object, k.capability.badge),
+        0,
+        k.visits,
+    )
 }
 
 pub fn hear(mem: &[u32], d: u32, x: u32) -> Decided
@@ -135,7 +146,11 @@ pub fn hear(mem: &[u32], d: u32, x: u32) -> Decided
     if k.refusal != 0 {
         return refused(k.refusal, k.visits);
     }
-    done(Effect::Hush(k.capability.object), layout::bell(mem, k.capability.object), k.visits)
+    done(
+        Effect::Hush(k.capability.object),
+        layout::bell(mem, k.capability.object),
+        k.visits,
+    )
 }
 
 pub fn look(mem: &[u32], d: u32, x: u32) -> Decided

@@ -163,7 +163,7 @@ message-past m b h = λ i. record {
 }
 
 -- a number of a list, and past its end
-listed-at : (f : ℕ → ℕ) (n i k : ℕ) → k < n → getD (listed f n i) k 0 ≡ f (i + k)
+pub listed-at : (f : ℕ → ℕ) (n i k : ℕ) → k < n → getD (listed f n i) k 0 ≡ f (i + k)
 unfolding listed
 listed-at f zero i k h = absurd (omega arith)
 listed-at f (suc n) i zero h = ap f (let e : i ≡ i + 0 = omega arith in e)

@@ -1,4 +1,5 @@
--- DELETE's sweep: source number x gives way to y, one place after the other. Assumes nothing.
+-- DELETE's sweep: source number x gives way to y, one place after the other; and what the sweep and the emptying of p come to.
+-- Assumes nothing.
 use mathlib.Core.Path.{_≡_, refl, ap, fun-ext}
 use mathlib.Core.Bool.{Bool, true, false, cond}
 use mathlib.Core.List.{List}
@@ -14,7 +15,7 @@ use Rattle.layout.specs.Layout.{stateOf}
 use Rattle.layout.specs.Stored.{Stored, placed, resourced, handed}
 use Rattle.layout.proofs.Stores.{stored-then}
 use Rattle.tree.specs.Tree.{dropping, handing}
-use Rattle.tree.proofs.Kept.{below-same, stored-as, stored-end, sourceless-past}
+use Rattle.tree.proofs.Kept.{below-same, stored-as, stored-end, Ends, ends}
 
 module _ (x y : ℕ) where
   handing-zero : (s : State) → s ≡ handing 0 x y s
@@ -46,7 +47,7 @@ module _ (x y : ℕ) where
   handed-end h g s = stored-end (λ q. handing q x y) h g s
 
 -- the whole sweep, and then p
-dropping-swept : (s : State) (p y : ℕ) → y ≡ s .capability p .source → ((q : ℕ) → places ≤ q → s .capability q .source ≡ 0)
+dropping-swept : (s : State) (p y : ℕ) → y ≡ s .capability p .source → Ends s
     → placed p nothing (handing places (p + 1) y s) ≡ dropping p s
 unfolding dropping handing placed set resourced dropped
 dropping-swept s p y e past = ap (withPlaces s) (fun-ext (λ q. go q (eqb q p) (ltb q places) refl))
@@ -63,4 +64,4 @@ dropping-swept s p y e past = ap (withPlaces s) (fun-ext (λ q. go q (eqb q p) (
 
 pub dropped-all : {m n o : List ℕ} (p y : ℕ) → y ≡ stateOf m .capability p .source → Stored Unit (handing places (p + 1) y) m n
     → Stored (p < places) (placed p nothing) n o → Stored (p < places) (dropping p) m o
-dropped-all {m} p y e a b = stored-as (λ o. (tt, o)) (λ o. dropping-swept (stateOf m) p y e (sourceless-past m)) (stored-then a b)
+dropped-all {m} p y e a b = stored-as (λ o. (tt, o)) (λ o. dropping-swept (stateOf m) p y e (ends m)) (stored-then a b)

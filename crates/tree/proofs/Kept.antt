@@ -29,6 +29,9 @@ pub stored-end : {p : Type 0} (f : ℕ → State → State) {m n : List ℕ} {q 
 stored-end {p} f {m} {n} {q} {e} h g s = subst (λ k. Stored p (f k) m n) (let z : q ≡ e = omega arith in z) s
 
 -- past the last place there is no source
-pub sourceless-past : (m : List ℕ) (q : ℕ) → places ≤ q → stateOf m .capability q .source ≡ 0
+abbrev pub Ends : State → Type 0
+Ends s = (q : ℕ) → places ≤ q → s .capability q .source ≡ 0
+
+pub ends : (m : List ℕ) → Ends (stateOf m)
 unfolding stateOf ofCells cells size
-sourceless-past m q h = rw (le-ltb q places h)
+ends m q h = rw (le-ltb q places h)

@@ -1,5 +1,4 @@
--- REVOKE's marks: how a visit, a sweep and all sweeps change them, and that at the end what is derived from a place is marked and nothing
--- else. Assumes nothing.
+-- REVOKE's marks: how many there are, and how a visit, a sweep and all sweeps change them. Assumes nothing.
 use mathlib.Core.Path.{_≡_, refl, sym, ap, _∙_, subst}
 use mathlib.Core.List.{List}
 use mathlib.Core.Logic.{_⊎_, inl, inr, ⊎-elim}
@@ -29,7 +28,7 @@ unfolding counted
 counted-blank marks h zero = refl
 counted-blank marks h (suc n) = let l = counted-blank marks h n in let g = h (suc n) in omega arith
 
--- a mark at place q counts for the places past it
+-- one mark more, at place q
 module _ (marks : List ℕ) (q : ℕ) (h : suc q < length marks) (free : getD marks (suc q) 0 ≡ 0) where
   counted-below : (n : ℕ) → n ≤ q → counted (set marks (suc q) 1) n ≡ counted marks n
   unfolding counted
@@ -87,7 +86,7 @@ module _ (at : Places) where
       }
 
   -- its source is no place, is not marked, or it is marked itself
-  pub mark-past : {n : ℕ} {marks : List ℕ} (q x : ℕ) → x ≡ at q .source → Marks n marks → 1088 < x → Swept at q (q + 1) n marks n marks
+  pub mark-past : {n : ℕ} {marks : List ℕ} (q x : ℕ) → x ≡ at q .source → Marks n marks → places < x → Swept at q (q + 1) n marks n marks
   mark-past {marks = marks} q x e m h =
       still q m (λ g. absurd (let l = m .long in let z = List·getD-eq-default marks 0 {n = at q .source} (omega arith) in omega arith))
 

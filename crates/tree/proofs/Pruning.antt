@@ -22,7 +22,7 @@ use Rattle.layout.specs.Stored.{Stored, placed}
 use Rattle.layout.proofs.Stores.{stored-then}
 use Rattle.tree.specs.Tree.{pruning, pruneVisits}
 use Rattle.tree.specs.Marks.{Marked, Follows, Closed, chosen, toEmpty, clearing, emptying}
-use Rattle.tree.proofs.Kept.{below-same, stored-as, stored-end, sourceless-past}
+use Rattle.tree.proofs.Kept.{below-same, stored-as, stored-end, Ends, ends}
 
 -- the visit to a place that is to be emptied
 abbrev one : Bool → ℕ
@@ -101,11 +101,11 @@ module _ (marks : List ℕ) (p : ℕ) where
 
       go : (t : Bool) → chosen marks p n ≡ t
           → cond t (withPlaces s (λ q. cond (eqb q n) nothing (at n q))) (withPlaces s (at n)) ≡ withPlaces s (at (n + 1))
-      go true e = ap (withPlaces s) (fun-ext (λ q. one q (eqb q n) refl))
+      go true e = ap (withPlaces s) (fun-ext (λ q. each q (eqb q n) refl))
         where
-          one : (q : ℕ) (t : Bool) → eqb q n ≡ t → cond t nothing (at n q) ≡ at (n + 1) q
-          one q true z = subst (λ k. nothing ≡ at (n + 1) k) (sym (eqb-true q n z)) (here e)
-          one q false z = away q (eqb-false q n z)
+          each : (q : ℕ) (t : Bool) → eqb q n ≡ t → cond t nothing (at n q) ≡ at (n + 1) q
+          each q true z = subst (λ k. nothing ≡ at (n + 1) k) (sym (eqb-true q n z)) (here e)
+          each q false z = away q (eqb-false q n z)
       go false e =
           ap (withPlaces s) (fun-ext (λ q. ⊎-elim (λ z. subst (λ k. at n k ≡ at (n + 1) k) (sym z) (kept e)) (away q) (same? q n)))
 
@@ -148,47 +148,46 @@ module _ (marks : List ℕ) (p : ℕ) where
 
 -- ---- what the marks and the emptying come to
 
-module _ (s : State) (past : (q : ℕ) → places ≤ q → s .capability q .source ≡ 0) {marks : List ℕ} {p : ℕ} (c : Closed (s .capability) p marks)
-  where
-    -- every place is marked where its source is
-    all-follow : (q : ℕ) → Follows (s .capability) marks q
-    all-follow q g = go (ltb q places) refl
-      where
-        go : (t : Bool) → ltb q places ≡ t → Marked marks (suc q)
-        go true e = c .follows q (ltb-true q places e) g
-        go false e = absurd (let z = c .none in let w = subst (Marked marks) (past q (ltb-false q places e)) g in omega arith)
+module _ (s : State) (past : Ends s) {marks : List ℕ} {p : ℕ} (c : Closed (s .capability) p marks) where
+  -- every place is marked where its source is
+  all-follow : (q : ℕ) → Follows (s .capability) marks q
+  all-follow q g = go (ltb q places) refl
+    where
+      go : (t : Bool) → ltb q places ≡ t → Marked marks (suc q)
+      go true e = c .follows q (ltb-true q places e) g
+      go false e = absurd (let z = c .none in let w = subst (Marked marks) (past q (ltb-false q places e)) g in omega arith)
 
-    -- so what is derived from p is marked, and is one of the places that there are
-    derived-marked : {q : ℕ} → Derived (s .capability) p q → Marked marks (suc q)
-    derived-marked (direct {q} e) = all-follow q (subst (Marked marks) (sym e) (c .rooted .root))
-    derived-marked (further {r = r} u e) = all-follow r (subst (Marked marks) (sym e) (derived-marked u))
+  -- so what is derived from p is marked, and is one of the places that there are
+  derived-marked : {q : ℕ} → Derived (s .capability) p q → Marked marks (suc q)
+  derived-marked (direct {q} e) = all-follow q (subst (Marked marks) (sym e) (c .rooted .root))
+  derived-marked (further {r = r} u e) = all-follow r (subst (Marked marks) (sym e) (derived-marked u))
 
-    derived-place : {q : ℕ} → Derived (s .capability) p q → places ≤ q → ⊥
-    derived-place (direct {q} e) h = let z = past q h in omega arith
-    derived-place (further {r = q} u e) h = let z = past q h in omega arith
+  derived-place : {q : ℕ} → Derived (s .capability) p q → places ≤ q → ⊥
+  derived-place (direct {q} e) h = let z = past q h in omega arith
+  derived-place (further {r = q} u e) h = let z = past q h in omega arith
 
-    -- and what is emptied is derived from p; the other way round it is where nothing is derived from itself
-    chosen-derived : (q : ℕ) → chosen marks p q ≡ true → Derived (s .capability) p q
-    chosen-derived q e = ⊎-elim (λ z. absurd (not-both e (not-root marks p q z))) (λ u. u) (c .rooted .derived q marked)
-      where
-        marked : Marked marks (suc q)
-        marked =
-            ⊎-elim (λ z. absurd (not-both e (not-free marks p q z))) (λ n. let l = c .most (suc q) in omega arith) (same? (getD marks (suc q) 0) 0)
+  -- what is emptied is derived from p; and what is derived from p is emptied, where p is not derived from itself
+  chosen-derived : (q : ℕ) → chosen marks p q ≡ true → Derived (s .capability) p q
+  chosen-derived q e = ⊎-elim (λ z. absurd (not-both e (not-root marks p q z))) (λ u. u) (c .rooted .derived q marked)
+    where
+      marked : Marked marks (suc q)
+      marked =
+          ⊎-elim (λ z. absurd (not-both e (not-free marks p q z))) (λ n. let l = c .most (suc q) in omega arith) (same? (getD marks (suc q) 0) 0)
 
-    derived-chosen : (Derived (s .capability) p p → ⊥) → (q : ℕ) → Derived (s .capability) p q → chosen marks p q ≡ true
-    derived-chosen n q u =
-        is-chosen marks p q (λ z. n (subst (Derived (s .capability) p) z u)) (λ z. let w = derived-marked u in omega arith)
+  derived-chosen : (Derived (s .capability) p p → ⊥) → (q : ℕ) → Derived (s .capability) p q → chosen marks p q ≡ true
+  derived-chosen n q u =
+      is-chosen marks p q (λ z. n (subst (Derived (s .capability) p) z u)) (λ z. let w = derived-marked u in omega arith)
 
-    -- on sound memory exactly what is derived from p is emptied
-    emptied-pruned : Sound s → emptying places marks p s ≡ pruning p s
-    unfolding emptying pruning
-    emptied-pruned f = ap (withPlaces s) (fun-ext (λ q. go q (ltb q places) (chosen marks p q) refl refl))
-      where
-        go : (q : ℕ) (t u : Bool) → ltb q places ≡ t → chosen marks p q ≡ u → cond (t && u) nothing (s .capability q) ≡ pruned (s .capability) p q
-        go q true true h e = sym (pruning-gone f p q (chosen-derived q e))
-        go q true false h e = sym (pruning-kept f p q (λ u. not-both (derived-chosen (f .section4 .noReturn) q u) e))
-        go q false u h e = sym (pruning-kept f p q (λ w. derived-place w (ltb-false q places h)))
+  -- on sound memory exactly what is derived from p is emptied
+  emptied-pruned : Sound s → emptying places marks p s ≡ pruning p s
+  unfolding emptying pruning
+  emptied-pruned f = ap (withPlaces s) (fun-ext (λ q. go q (ltb q places) (chosen marks p q) refl refl))
+    where
+      go : (q : ℕ) (t u : Bool) → ltb q places ≡ t → chosen marks p q ≡ u → cond (t && u) nothing (s .capability q) ≡ pruned (s .capability) p q
+      go q true true h e = sym (pruning-gone f p q (chosen-derived q e))
+      go q true false h e = sym (pruning-kept f p q (λ u. not-both (derived-chosen (f .section4 .noReturn) q u) e))
+      go q false u h e = sym (pruning-kept f p q (λ w. derived-place w (ltb-false q places h)))
 
 pub pruned-all : {m n marks : List ℕ} (p : ℕ) → Closed (stateOf m .capability) p marks → Stored Unit (emptying places marks p) m n
     → Stored (Sound (stateOf m)) (pruning p) m n
-pruned-all {m} p c s = stored-as (λ o. tt) (emptied-pruned (stateOf m) (sourceless-past m) c) s
+pruned-all {m} p c s = stored-as (λ o. tt) (emptied-pruned (stateOf m) (ends m) c) s

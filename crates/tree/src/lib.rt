@@ -131,10 +131,10 @@ fn clear(mem: &mut [u32], marks: &[u8], p: u32, q: u32, visits: u32) -> u32
     requires { ⌜ Enough (now mem) ⌝ ∗ ⌜ length (now marks) ≡ suc places ⌝ ∗ ⌜ q < places ⌝ ∗ ⌜ visits < visitsMost ⌝ }
     ensures { λ r. ⌜ (r ≡ visits + cond (chosen (now (marks .entry)) p q) 1 0) × Stored Unit (clearing (now (marks .entry)) p q) (now (mem .entry)) (now (mem .exit)) ⌝ }
 {
-    if q == p {
+    if marks[q as usize + 1] == 0 {
         return visits;
     }
-    if marks[q as usize + 1] == 0 {
+    if q == p {
         return visits;
     }
     empty(mem, q, visits)

@@ -21,7 +21,7 @@ loop-holds : tie.Need-loop-holds Inv-loop μ-loop
 loop-holds c = (search needs, visits-none _ _ _, emptied-none _ _ _)
 
 clear-requires : tie.Need-clear-requires Inv-loop μ-loop
-clear-requires c κs = (search (needs, enough-kept), (search needs, (search needs, search (needs, visits-below))))
+clear-requires c κs = (search enough-kept, (search needs, (search needs, search (needs, visits-below))))
 
 add-q : tie.Need-add-q Inv-loop μ-loop
 add-q c = search needs
@@ -30,13 +30,13 @@ loop-less : tie.Need-loop-less Inv-loop μ-loop
 loop-less c = search needs
 
 loop-again : tie.Need-loop-again Inv-loop μ-loop
-loop-again c = (search needs, search (needs, visits-more), search (needs, emptied-more))
+loop-again c = (search needs, search visits-more, search emptied-more)
 
 same-length : tie.Need-same-length Inv-loop μ-loop
 same-length c = search needs
 
 returns : tie.Need-returns Inv-loop μ-loop
-returns c = (search (needs, visits-end), search (needs, emptied-end))
+returns c = (search visits-end, search emptied-end)
 
 pub clear-marked-spec : {M : Type 1} → statement M
 clear-marked-spec =

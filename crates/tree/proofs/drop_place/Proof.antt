@@ -20,7 +20,7 @@ same-length : tie.Need-same-length
 same-length c = search needs
 
 returns : tie.Need-returns
-returns c = (search needs, search (needs, dropped-all))
+returns c = (search needs, search dropped-all)
 
 pub drop-place-spec : {M : Type 1} → statement M
 drop-place-spec =

@@ -22,7 +22,7 @@ loop-holds : tie.Need-loop-holds Inv-loop μ-loop
 loop-holds c = (search needs, search needs, handed-none _ _ _)
 
 hand-over-requires : tie.Need-hand-over-requires Inv-loop μ-loop
-hand-over-requires c κs = (search (needs, enough-kept), (search needs, search needs))
+hand-over-requires c κs = (search enough-kept, (search needs, search needs))
 
 add-child : tie.Need-add-child Inv-loop μ-loop
 add-child c = search needs
@@ -33,13 +33,13 @@ loop-less c = search needs
 loop-again : tie.Need-loop-again Inv-loop μ-loop
 loop-again c =
     let inside : c .before .before .before .before .before .loop .child < places = omega arith in
-    (search needs, search needs, search (needs, handed-more))
+    (search needs, search needs, search handed-more)
 
 same-length : tie.Need-same-length Inv-loop μ-loop
 same-length c = c .before .loop .inv .2 .long
 
 returns : tie.Need-returns Inv-loop μ-loop
-returns c = (search needs, search (needs, handed-end))
+returns c = (search needs, search handed-end)
 
 pub hand-all-spec : {M : Type 1} → statement M
 hand-all-spec =

@@ -30,16 +30,16 @@ same-length : tie.Need-same-length
 same-length c = search needs
 
 returns : tie.Need-returns
-returns c = (search needs, search (needs, mark-new))
+returns c = (search needs, search mark-new)
 
 returns-2 : tie.Need-returns-2
-returns-2 c = (search needs, search (needs, mark-already))
+returns-2 c = (search needs, search mark-already)
 
 returns-3 : tie.Need-returns-3
-returns-3 c = (search needs, search (needs, mark-other))
+returns-3 c = (search needs, search mark-other)
 
 returns-4 : tie.Need-returns-4
-returns-4 c = (search needs, search (needs, mark-past))
+returns-4 c = (search needs, search mark-past)
 
 pub mark-spec : {M : Type 1} → statement M
 mark-spec =

@@ -22,7 +22,7 @@ slice-write-marks : tie.Need-slice-write-marks Inv-loop μ-loop
 slice-write-marks c = search needs
 
 loop-holds : tie.Need-loop-holds Inv-loop μ-loop
-loop-holds c = (search needs, search (needs, sweeping-begun))
+loop-holds c = (search needs, search sweeping-begun)
 
 sweep-requires : tie.Need-sweep-requires Inv-loop μ-loop
 sweep-requires c κs = (search needs, (search needs, search needs))
@@ -31,13 +31,13 @@ loop-less : tie.Need-loop-less Inv-loop μ-loop
 loop-less c = search needs
 
 loop-again : tie.Need-loop-again Inv-loop μ-loop
-loop-again c = (search needs, search (needs, sweeping-more))
+loop-again c = (search needs, search sweeping-more)
 
 same-length : tie.Need-same-length Inv-loop μ-loop
 same-length c = search needs
 
 returns : tie.Need-returns Inv-loop μ-loop
-returns c = (search needs, search (needs, sweeping-end))
+returns c = (search needs, search sweeping-end)
 
 pub mark-derived-spec : {M : Type 1} → statement M
 mark-derived-spec =

@@ -21,7 +21,7 @@ same-length : tie.Need-same-length
 same-length c = search needs
 
 returns : tie.Need-returns
-returns c = (search (needs, visits-all), search (needs, pruned-all))
+returns c = (search (needs, visits-all), search pruned-all)
 
 pub prune-spec : {M : Type 1} → statement M
 prune-spec =

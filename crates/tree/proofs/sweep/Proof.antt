@@ -17,7 +17,7 @@ abbrev μ-loop : tie.MeasureT-loop
 μ-loop mem marks₀ marked visits t₀ to₀ marks t to = places - to
 
 loop-holds : tie.Need-loop-holds Inv-loop μ-loop
-loop-holds c = (search needs, search needs, search (needs, swept-none))
+loop-holds c = (search needs, search needs, search swept-none)
 
 mark-requires : tie.Need-mark-requires Inv-loop μ-loop
 mark-requires c κs = (search needs, (search needs, (search needs, search needs)))
@@ -29,13 +29,13 @@ loop-less : tie.Need-loop-less Inv-loop μ-loop
 loop-less c = search needs
 
 loop-again : tie.Need-loop-again Inv-loop μ-loop
-loop-again c = (search needs, search needs, search (needs, swept-more))
+loop-again c = (search needs, search needs, search swept-more)
 
 same-length : tie.Need-same-length Inv-loop μ-loop
 same-length c = search needs
 
 returns : tie.Need-returns Inv-loop μ-loop
-returns c = (search needs, search (needs, swept-end))
+returns c = (search needs, search swept-end)
 
 pub sweep-spec : {M : Type 1} → statement M
 sweep-spec =

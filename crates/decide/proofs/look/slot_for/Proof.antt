@@ -1,32 +1,25 @@
+-- `decide::look::slot_for` meets its contract. Assumes nothing.
 use borrow.Author.Needs.{needs}
 use Rattle.decide.proofs.Checks.{checks, is-done, is-refused}
 use Rattle.rules.specs.Turn.{slotFor}
 use Rattle.decide.proofs.look.slot_for.Statement.{statement}
 use Rattle.decide.proofs.look.slot_for.Tie as tie
-use Rattle.decide.proofs.look.slot_for.Reads as reads
-use Rattle.decide.proofs.look.slot_for.Lts as lts
-use Rattle.decide.proofs.look.any_slot.Reads as any-slot-reads
 
--- src/look.rt:111:9
 any-slot-requires : tie.Need-any-slot-requires
 any-slot-requires c κs = search needs
 
--- src/look.rt:113:9
 returns : tie.Need-returns
 unfolding slotFor
 returns c = search checks
 
--- src/look.rt:117:9
 returns-2 : tie.Need-returns-2
 unfolding slotFor
 returns-2 c = let k = c .before .before .before in let h = k .before .before .any-slot .ensures .capability (k .if1 .left) in search checks
 
--- src/look.rt:124:9
 returns-3 : tie.Need-returns-3
 unfolding slotFor
 returns-3 c = let k = c .before .before .before .before .before in let h = k .before .before .any-slot .ensures .capability (k .if1 .left) in search checks
 
--- src/look.rt:107:1
 returns-4 : tie.Need-returns-4
 unfolding slotFor
 returns-4 c = let k = c .before .before .before .before .before in let h = k .before .before .any-slot .ensures .capability (k .if1 .left) in search checks

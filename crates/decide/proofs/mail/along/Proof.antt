@@ -1,3 +1,4 @@
+-- `decide::mail::along` meets its contract. Assumes nothing.
 use native.Mathlib.Omega.{arith}
 use borrow.Author.Tests.{lt-ltb}
 use Rattle.rules.specs.Sizes.{slots}
@@ -7,69 +8,49 @@ use Rattle.rules.specs.Turn.{goes}
 use Rattle.decide.proofs.Checks.{checks, stands, refuses, goes-on, found, looked-up, never, is-done, is-refused, full-low}
 use Rattle.decide.proofs.mail.along.Statement.{statement}
 use Rattle.decide.proofs.mail.along.Tie as tie
-use Rattle.decide.proofs.mail.along.Reads as reads
-use Rattle.decide.proofs.mail.along.Lts as lts
-use Rattle.decide.proofs.look.nothing.Reads as nothing-reads
-use Rattle.decide.proofs.mail.copied.Reads as copied-reads
-use Rattle.layout.proofs.see.Reads as see-reads
 
--- src/mail.rt:59:29
 nothing-requires : tie.Need-nothing-requires
 nothing-requires c κs = search needs
 
--- src/mail.rt:57:13
 returns : tie.Need-returns
 returns c = record { refusal = search checks; capability = never 2 refl; visits = search checks }
 
--- src/mail.rt:65:25
 nothing-requires-2 : tie.Need-nothing-requires-2
 nothing-requires-2 c κs = search needs
 
--- src/mail.rt:63:9
 returns-2 : tie.Need-returns-2
 returns-2 c = search checks
 
--- src/mail.rt:72:25
 nothing-requires-3 : tie.Need-nothing-requires-3
 nothing-requires-3 c κs = search needs
 
--- src/mail.rt:70:9
 returns-3 : tie.Need-returns-3
 returns-3 c = record { refusal = search checks depth 7; capability = never 5 refl; visits = search checks }
 
--- src/mail.rt:76:33
 mul-see : tie.Need-mul-see
 mul-see c = search needs
 
--- src/mail.rt:76:33
 add-see : tie.Need-add-see
 add-see c = search needs
 
--- src/mail.rt:76:9
 see-requires : tie.Need-see-requires
 see-requires c κs = search needs
 
--- src/mail.rt:80:25
 nothing-requires-4 : tie.Need-nothing-requires-4
 nothing-requires-4 c κs = search needs
 
--- src/mail.rt:78:9
 returns-4 : tie.Need-returns-4
 returns-4 c = record { refusal = search checks; capability = never 3 refl; visits = search checks }
 
--- src/mail.rt:86:45
 mul-copied : tie.Need-mul-copied
 mul-copied c = search needs
 
--- src/mail.rt:86:45
 add-copied : tie.Need-add-copied
 add-copied c = search needs
 
--- src/mail.rt:86:21
 copied-requires : tie.Need-copied-requires
 copied-requires c κs = search needs
 
--- src/mail.rt:51:1
 returns-5 : tie.Need-returns-5
 returns-5 c = record { refusal = search checks; capability = λ _. rw (lt-ltb _ slots (c .before .before .before .before .before .if1 .left)) (cc); visits = search checks }
 

@@ -1,3 +1,4 @@
+-- `decide::mail::receive` meets its contract. Assumes nothing.
 use borrow.Author.Needs.{needs}
 use native.Mathlib.Omega.{arith}
 use borrow.Author.Tests.{lt-ltb}
@@ -7,53 +8,37 @@ use Rattle.rules.specs.Turn.{receive}
 use Rattle.decide.proofs.Checks.{checks, stands, refuses, goes-on, found, looked-up, never, is-done, is-refused, full-low}
 use Rattle.decide.proofs.mail.receive.Statement.{statement}
 use Rattle.decide.proofs.mail.receive.Tie as tie
-use Rattle.decide.proofs.mail.receive.Reads as reads
-use Rattle.decide.proofs.mail.receive.Lts as lts
-use Rattle.decide.proofs.look.refused.Reads as refused-reads
-use Rattle.decide.proofs.look.slot_for.Reads as slot-for-reads
-use Rattle.decide.proofs.mail.take.Reads as take-reads
-use Rattle.layout.proofs.message.Reads as message-reads
 
--- src/mail.rt:157:9
 slot-for-requires : tie.Need-slot-for-requires
 slot-for-requires c κs = search needs
 
--- src/mail.rt:159:9
 refused-requires : tie.Need-refused-requires
 refused-requires c κs = search needs
 
--- src/mail.rt:159:9
 returns : tie.Need-returns
 unfolding receive
 returns c = is-refused _ _ _ (c .refused .ensures) (search checks) (search checks) (search checks)
 
--- src/mail.rt:162:9
 refused-requires-2 : tie.Need-refused-requires-2
 refused-requires-2 c κs = search needs
 
--- src/mail.rt:162:9
 returns-2 : tie.Need-returns-2
 unfolding receive
 returns-2 c = is-refused _ _ _ (c .refused2 .ensures) refl (search checks) (search checks)
 
--- src/mail.rt:165:9
 message-requires : tie.Need-message-requires
 message-requires c κs = search needs
 
--- src/mail.rt:167:9
 refused-requires-3 : tie.Need-refused-requires-3
 refused-requires-3 c κs = search needs
 
--- src/mail.rt:167:9
 returns-3 : tie.Need-returns-3
 unfolding receive
 returns-3 c = let k = c .before .before .before .before .before in let h = found (k .before .before .slot-for .ensures) (k .if1 .left) in let z = looked-up _ _ _ _ _ (k .before .before .slot-for .ensures) (k .if1 .left) in is-refused _ _ _ (c .refused3 .ensures) refl (search checks) (search checks)
 
--- src/mail.rt:169:9
 take-requires : tie.Need-take-requires
 take-requires c κs = let k = c .before .before .before .before in let s = k .before .before .before .before in (s .pre .0, (s .pre .1, (full-low _ _ _ (c .if3 .left) (c .before .before .message .ensures), omega (arith, k .before .before .slot-for .ensures .visits))))
 
--- src/mail.rt:153:1
 returns-4 : tie.Need-returns-4
 unfolding receive
 returns-4 c = let k = c .before .before .before .before .before in let h = found (k .before .before .slot-for .ensures) (k .if1 .left) in let z = looked-up _ _ _ _ _ (k .before .before .slot-for .ensures) (k .if1 .left) in is-done _ _ _ (search checks) (cc) (search checks)

@@ -1,66 +1,47 @@
+-- `decide::mail::send` meets its contract. Assumes nothing.
 use mathlib.Core.Path.{refl}
 use borrow.Author.Needs.{needs}
 use Rattle.rules.specs.Turn.{send}
 use Rattle.decide.proofs.Checks.{checks, stands, refuses, goes-on, found, looked-up, never, is-done, is-refused, full-low}
 use Rattle.decide.proofs.mail.send.Statement.{statement}
 use Rattle.decide.proofs.mail.send.Tie as tie
-use Rattle.decide.proofs.mail.send.Reads as reads
-use Rattle.decide.proofs.mail.send.Lts as lts
-use Rattle.decide.proofs.look.done.Reads as done-reads
-use Rattle.decide.proofs.look.refused.Reads as refused-reads
-use Rattle.decide.proofs.look.slot_for.Reads as slot-for-reads
-use Rattle.decide.proofs.mail.along.Reads as along-reads
-use Rattle.decide.proofs.mail.written.Reads as written-reads
-use Rattle.layout.proofs.message.Reads as message-reads
 
--- src/mail.rt:95:9
 slot-for-requires : tie.Need-slot-for-requires
 slot-for-requires c κs = search needs
 
--- src/mail.rt:97:9
 refused-requires : tie.Need-refused-requires
 refused-requires c κs = search needs
 
--- src/mail.rt:97:9
 returns : tie.Need-returns
 unfolding send
 returns c = is-refused _ _ _ (c .refused .ensures) (search checks) (search checks) (search checks)
 
--- src/mail.rt:100:9
 along-requires : tie.Need-along-requires
 along-requires c κs = search needs
 
--- src/mail.rt:102:9
 refused-requires-2 : tie.Need-refused-requires-2
 refused-requires-2 c κs = search needs
 
--- src/mail.rt:102:9
 returns-2 : tie.Need-returns-2
 unfolding send
 returns-2 c = let k = c .before .before .before .before .before in let h = found (k .before .before .slot-for .ensures) (k .if1 .left) in let z = looked-up _ _ _ _ _ (k .before .before .slot-for .ensures) (k .if1 .left) in is-refused _ _ _ (c .refused2 .ensures) (search checks) (stands _ _ _ _ (search checks) (cc)) (search checks)
 
--- src/mail.rt:104:8
 message-requires : tie.Need-message-requires
 message-requires c κs = search needs
 
--- src/mail.rt:105:9
 refused-requires-3 : tie.Need-refused-requires-3
 refused-requires-3 c κs = search needs
 
--- src/mail.rt:105:9
 returns-3 : tie.Need-returns-3
 unfolding send
 returns-3 c = let k = c .before .before .before .before .before .before .before .before in let h = found (k .before .before .slot-for .ensures) (k .if1 .left) in let z = looked-up _ _ _ _ _ (k .before .before .slot-for .ensures) (k .if1 .left) in is-refused _ _ _ (c .refused3 .ensures) refl (refuses _ _ _ (cc) (search checks)) (search checks)
 
--- src/mail.rt:108:33
 written-requires : tie.Need-written-requires
 written-requires c κs = search needs
 
--- src/mail.rt:108:5
 done-requires : tie.Need-done-requires
 done-requires c κs = search needs
 
--- src/mail.rt:91:1
 returns-4 : tie.Need-returns-4
 unfolding send
 returns-4 c = let k = c .before .before .before .before .before .before .before .before .before .before in let h = found (k .before .before .slot-for .ensures) (k .if1 .left) in let z = looked-up _ _ _ _ _ (k .before .before .slot-for .ensures) (k .if1 .left) in let l = c .before .before .before .before .before .before in let a = l .before .before .along .ensures in let i = a .capability (l .if2 .left) in let j = a .refusal in let y = l .if2 .left in is-done _ _ _ (goes-on _ _ _ _ (cc) (search checks)) (cc) (search checks)

@@ -1,56 +1,43 @@
+-- `decide::mail::take` meets its contract. Assumes nothing.
 use borrow.Author.Needs.{needs}
 use Rattle.rules.specs.Turn.{moves}
 use Rattle.decide.proofs.Checks.{checks, stands, refuses, goes-on, found, looked-up, never, is-done, is-refused, full-low}
 use Rattle.decide.proofs.mail.take.Statement.{statement}
 use Rattle.decide.proofs.mail.take.Tie as tie
-use Rattle.decide.proofs.mail.take.Reads as reads
-use Rattle.decide.proofs.mail.take.Lts as lts
-use Rattle.layout.proofs.see.Reads as see-reads
 
--- src/mail.rt:99:9
 returns : tie.Need-returns
 unfolding moves
 returns c = search checks
 
--- src/mail.rt:105:34
 add-see : tie.Need-add-see
 add-see c = search needs
 
--- src/mail.rt:105:9
 see-requires : tie.Need-see-requires
 see-requires c κs = search needs
 
--- src/mail.rt:107:9
 returns-2 : tie.Need-returns-2
 unfolding moves
 returns-2 c = search checks
 
--- src/mail.rt:113:31
 mul-see : tie.Need-mul-see
 mul-see c = search needs
 
--- src/mail.rt:113:31
 add-see-2 : tie.Need-add-see-2
 add-see-2 c = search needs
 
--- src/mail.rt:113:9
 see-requires-2 : tie.Need-see-requires-2
 see-requires-2 c κs = search needs
 
--- src/mail.rt:115:9
 returns-3 : tie.Need-returns-3
 unfolding moves
 returns-3 c = search checks
 
--- src/mail.rt:122:33
 mul-t12 : tie.Need-mul-t12
 mul-t12 c = search needs
 
--- src/mail.rt:122:33
 add-t10 : tie.Need-add-t10
 add-t10 c = search needs
 
--- src/mail.rt:94:1
 returns-4 : tie.Need-returns-4
 unfolding moves
 returns-4 c = search checks

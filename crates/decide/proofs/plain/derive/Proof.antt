@@ -1,94 +1,69 @@
+-- `decide::plain::derive` meets its contract. Assumes nothing.
 use borrow.Author.Needs.{needs}
 use Rattle.rules.specs.Turn.{derive}
 use mathlib.Core.Path.{refl}
 use Rattle.decide.proofs.Checks.{checks, is-done, is-refused}
 use Rattle.decide.proofs.plain.derive.Statement.{statement}
 use Rattle.decide.proofs.plain.derive.Tie as tie
-use Rattle.decide.proofs.plain.derive.Reads as reads
-use Rattle.decide.proofs.plain.derive.Lts as lts
-use Rattle.decide.proofs.look.any_slot.Reads as any-slot-reads
-use Rattle.decide.proofs.look.done.Reads as done-reads
-use Rattle.decide.proofs.look.refused.Reads as refused-reads
-use Rattle.decide.proofs.plain.derived.Reads as derived-reads
-use Rattle.layout.proofs.see.Reads as see-reads
 
--- src/plain.rt:80:9
 any-slot-requires : tie.Need-any-slot-requires
 any-slot-requires c κs = search needs
 
--- src/plain.rt:82:9
 refused-requires : tie.Need-refused-requires
 refused-requires c κs = search needs
 
--- src/plain.rt:82:9
 returns : tie.Need-returns
 unfolding derive
 returns c = is-refused _ _ _ (c .refused .ensures) (search checks) (search checks) (search checks)
 
--- src/plain.rt:85:9
 refused-requires-2 : tie.Need-refused-requires-2
 refused-requires-2 c κs = search needs
 
--- src/plain.rt:85:9
 returns-2 : tie.Need-returns-2
 unfolding derive
 returns-2 c = is-refused _ _ _ (c .refused2 .ensures) refl (search checks) (search checks)
 
--- src/plain.rt:87:33
 mul-see : tie.Need-mul-see
 mul-see c = search needs
 
--- src/plain.rt:87:33
 add-see : tie.Need-add-see
 add-see c = search needs
 
--- src/plain.rt:87:9
 see-requires : tie.Need-see-requires
 see-requires c κs = search needs
 
--- src/plain.rt:89:9
 refused-requires-3 : tie.Need-refused-requires-3
 refused-requires-3 c κs = search needs
 
--- src/plain.rt:89:9
 returns-3 : tie.Need-returns-3
 unfolding derive
 returns-3 c = is-refused _ _ _ (c .refused3 .ensures) refl (search checks) (search checks)
 
--- src/plain.rt:92:9
 refused-requires-4 : tie.Need-refused-requires-4
 refused-requires-4 c κs = search needs
 
--- src/plain.rt:92:9
 returns-4 : tie.Need-returns-4
 unfolding derive
 returns-4 c = is-refused _ _ _ (c .refused4 .ensures) refl (search checks) (search checks)
 
--- src/plain.rt:94:22
 mul-t11 : tie.Need-mul-t11
 mul-t11 c = search needs
 
--- src/plain.rt:94:22
 add-t10 : tie.Need-add-t10
 add-t10 c = search needs
 
--- src/plain.rt:94:56
 mul-derived : tie.Need-mul-derived
 mul-derived c = search needs
 
--- src/plain.rt:94:56
 add-derived : tie.Need-add-derived
 add-derived c = search needs
 
--- src/plain.rt:94:34
 derived-requires : tie.Need-derived-requires
 derived-requires c κs = search needs
 
--- src/plain.rt:94:5
 done-requires : tie.Need-done-requires
 done-requires c κs = search needs
 
--- src/plain.rt:76:1
 returns-5 : tie.Need-returns-5
 unfolding derive
 returns-5 c = let k = c .before .before .before .before .before .before .before in let h = k .before .before .any-slot .ensures .capability (k .if1 .left) in is-done _ _ _ (search checks) (cc) (search checks)

@@ -1,47 +1,34 @@
+-- `decide::plain::load` meets its contract. Assumes nothing.
 use mathlib.Core.Path.{refl}
 use borrow.Author.Needs.{needs}
 use Rattle.rules.specs.Turn.{load}
 use Rattle.decide.proofs.Checks.{checks, is-done, is-refused}
 use Rattle.decide.proofs.plain.load.Statement.{statement}
 use Rattle.decide.proofs.plain.load.Tie as tie
-use Rattle.decide.proofs.plain.load.Reads as reads
-use Rattle.decide.proofs.plain.load.Lts as lts
-use Rattle.decide.proofs.look.done.Reads as done-reads
-use Rattle.decide.proofs.look.refused.Reads as refused-reads
-use Rattle.decide.proofs.look.slot_for.Reads as slot-for-reads
-use Rattle.layout.proofs.word.Reads as word-reads
 
--- src/plain.rt:31:9
 slot-for-requires : tie.Need-slot-for-requires
 slot-for-requires c κs = search needs
 
--- src/plain.rt:33:9
 refused-requires : tie.Need-refused-requires
 refused-requires c κs = search needs
 
--- src/plain.rt:33:9
 returns : tie.Need-returns
 unfolding load
 returns c = is-refused _ _ _ (c .refused .ensures) (search checks) (search checks) (search checks)
 
--- src/plain.rt:36:9
 refused-requires-2 : tie.Need-refused-requires-2
 refused-requires-2 c κs = search needs
 
--- src/plain.rt:36:9
 returns-2 : tie.Need-returns-2
 unfolding load
 returns-2 c = is-refused _ _ _ (c .refused2 .ensures) refl (search checks) (search checks)
 
--- src/plain.rt:38:27
 word-requires : tie.Need-word-requires
 word-requires c κs = search needs
 
--- src/plain.rt:38:5
 done-requires : tie.Need-done-requires
 done-requires c κs = search needs
 
--- src/plain.rt:27:1
 returns-3 : tie.Need-returns-3
 unfolding load
 returns-3 c = let k = c .before .before .before in let h = k .before .before .slot-for .ensures .capability (k .if1 .left) in is-done _ _ _ (search checks) (cc) (search checks)

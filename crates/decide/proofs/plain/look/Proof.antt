@@ -1,27 +1,20 @@
+-- `decide::plain::look` meets its contract. Assumes nothing.
 use borrow.Author.Needs.{needs}
 use Rattle.rules.specs.Turn.{look}
 use Rattle.decide.proofs.Checks.{checks, is-done, is-refused}
 use Rattle.decide.proofs.plain.look.Statement.{statement}
 use Rattle.decide.proofs.plain.look.Tie as tie
-use Rattle.decide.proofs.plain.look.Reads as reads
-use Rattle.decide.proofs.plain.look.Lts as lts
-use Rattle.decide.proofs.look.any_slot.Reads as any-slot-reads
-use Rattle.decide.proofs.look.refused.Reads as refused-reads
 
--- src/plain.rt:145:9
 any-slot-requires : tie.Need-any-slot-requires
 any-slot-requires c κs = search needs
 
--- src/plain.rt:147:9
 refused-requires : tie.Need-refused-requires
 refused-requires c κs = search needs
 
--- src/plain.rt:147:9
 returns : tie.Need-returns
 unfolding look
 returns c = is-refused _ _ _ (c .refused .ensures) (search checks) (search checks) (search checks)
 
--- src/plain.rt:141:1
 returns-2 : tie.Need-returns-2
 unfolding look
 returns-2 c = let k = c .before in let h = k .before .before .any-slot .ensures .capability (k .if1 .left) in is-done _ _ _ (search checks) (cc) (search checks)

@@ -1,40 +1,29 @@
+-- `decide::plain::revoke` meets its contract. Assumes nothing.
 use borrow.Author.Needs.{needs}
 use Rattle.rules.specs.Turn.{revoke}
 use Rattle.decide.proofs.Checks.{checks, is-done, is-refused}
 use Rattle.decide.proofs.plain.revoke.Statement.{statement}
 use Rattle.decide.proofs.plain.revoke.Tie as tie
-use Rattle.decide.proofs.plain.revoke.Reads as reads
-use Rattle.decide.proofs.plain.revoke.Lts as lts
-use Rattle.decide.proofs.look.any_slot.Reads as any-slot-reads
-use Rattle.decide.proofs.look.done.Reads as done-reads
-use Rattle.decide.proofs.look.refused.Reads as refused-reads
 
--- src/plain.rt:112:9
 any-slot-requires : tie.Need-any-slot-requires
 any-slot-requires c κs = search needs
 
--- src/plain.rt:114:9
 refused-requires : tie.Need-refused-requires
 refused-requires c κs = search needs
 
--- src/plain.rt:114:9
 returns : tie.Need-returns
 unfolding revoke
 returns c = is-refused _ _ _ (c .refused .ensures) (search checks) (search checks) (search checks)
 
--- src/plain.rt:116:24
 mul-t6 : tie.Need-mul-t6
 mul-t6 c = search needs
 
--- src/plain.rt:116:24
 add-t7 : tie.Need-add-t7
 add-t7 c = search needs
 
--- src/plain.rt:116:5
 done-requires : tie.Need-done-requires
 done-requires c κs = search needs
 
--- src/plain.rt:108:1
 returns-2 : tie.Need-returns-2
 unfolding revoke
 returns-2 c = is-done _ _ _ (search checks) (c .done .ensures .0) (search checks)

@@ -1,32 +1,23 @@
+-- `decide::plain::ring` meets its contract. Assumes nothing.
 use borrow.Author.Needs.{needs}
 use Rattle.rules.specs.Turn.{ring}
 use Rattle.decide.proofs.Checks.{checks, is-done, is-refused}
 use Rattle.decide.proofs.plain.ring.Statement.{statement}
 use Rattle.decide.proofs.plain.ring.Tie as tie
-use Rattle.decide.proofs.plain.ring.Reads as reads
-use Rattle.decide.proofs.plain.ring.Lts as lts
-use Rattle.decide.proofs.look.done.Reads as done-reads
-use Rattle.decide.proofs.look.refused.Reads as refused-reads
-use Rattle.decide.proofs.look.slot_for.Reads as slot-for-reads
 
--- src/plain.rt:123:9
 slot-for-requires : tie.Need-slot-for-requires
 slot-for-requires c κs = search needs
 
--- src/plain.rt:125:9
 refused-requires : tie.Need-refused-requires
 refused-requires c κs = search needs
 
--- src/plain.rt:125:9
 returns : tie.Need-returns
 unfolding ring
 returns c = is-refused _ _ _ (c .refused .ensures) (search checks) (search checks) (search checks)
 
--- src/plain.rt:127:5
 done-requires : tie.Need-done-requires
 done-requires c κs = search needs
 
--- src/plain.rt:119:1
 returns-2 : tie.Need-returns-2
 unfolding ring
 returns-2 c = let k = c .before in let h = k .before .before .slot-for .ensures .capability (k .if1 .left) in is-done _ _ _ (search checks) (cc) (search checks)
