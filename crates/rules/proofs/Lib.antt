@@ -21,3 +21,5 @@ pub mod Table
 pub mod Promise
 pub mod Certificate
 pub mod Worked
+pub mod RoundTripEntries
+pub mod RoundTripWritten
