@@ -1,4 +1,4 @@
--- Writing what was read gives the bytes back. Assumes nothing.
+-- Writing what was read gives the bytes back, so an image describes each state in one way only. Assumes nothing.
 use mathlib.Core.Path.{_≡_, refl, sym, ap, ap₂}
 use mathlib.Core.Bool.{Bool, true, false}
 use mathlib.Core.List.{List, [], _∷_, _++_, map, List·Memᴰ, List·Memᴰ·head, List·Memᴰ·tail}
@@ -14,7 +14,7 @@ use Rattle.rules.specs.State.{slot}
 use Rattle.rules.specs.Turn.{present}
 use Rattle.rules.specs.Image.{Bytes, Entry, Image, headerBytes, entryBytes, byte, sizeD, sizeT, padded, entriesAt, lengthFor, tableOf, paddingOf, entriesFrom, imageOf, placeOf, sourceless, boot, defines, refusalOf, occupied, entriesFor, bytesFor, allBelow, writable, write}
 use Rattle.rules.specs.Authority.{Bootable}
-use Rattle.rules.specs.RoundTrip.{WrittenRead}
+use Rattle.rules.specs.RoundTrip.{WrittenRead, OneWay}
 use Rattle.rules.proofs.Laws.{both, passes}
 use Rattle.rules.proofs.Given.{some-at, given-here, FormRight, form-right}
 use Rattle.rules.proofs.Bootable.{atBoot, accepted-exactly}
@@ -106,3 +106,6 @@ unfolding refusalOf write
 written-read b y h =
     let form = passes _ _ 25 h .0 in
     rw (boot-writable (imageOf b), bytes-back b y (form-right b form) (accepted-exactly b form .0 h))
+
+pub one-way : OneWay
+one-way b c y z h k e = cc (written-read b y h, written-read c z k)
