@@ -23,3 +23,4 @@ pub mod Certificate
 pub mod Worked
 pub mod RoundTripEntries
 pub mod RoundTripWritten
+pub mod RoundTripRead

@@ -2,22 +2,23 @@
 -- of an entry. Assumes nothing.
 use mathlib.Core.Path.{_≡_, refl, sym, ap, ap₂, _∙_}
 use mathlib.Core.Bool.{Bool, true, false}
-use mathlib.Core.List.{List, [], _∷_, _++_, map, List·Memᴰ, List·Memᴰ·head, List·Memᴰ·tail}
+use mathlib.Core.List.{List, [], _∷_, _++_, map, List·Memᴰ, List·Memᴰ·head, List·Memᴰ·tail, List·Memᴰ·cases-cons}
 use mathlib.Core.Logic.{⊎-elim}
-use Prim.Native.Nat.{ℕ, zero, suc, _+_, _*_, _≤_, _<_}
+use Prim.Native.Nat.{ℕ, zero, suc, _+_, _*_, _/_, _%_, _≤_, _<_}
 use native.Mathlib.Omega.{arith}
-use native.Mathlib.Nat.{add-zero, add-assoc, add-suc, suc-add}
+use native.Mathlib.Nat.{add-zero, add-assoc, add-suc, suc-add, div-add-mod'}
 use lib.Dec.{eqb, ltb}
-use lib.ListN.{length, drop, drop-of-length-le, length-drop}
+use lib.ListN.{length, drop, drop-of-length-le, length-drop, length-append}
 use lib.Arith.{digits-div, digits-mod}
-use lib.Seq.{drop-cons, drop-drop, getD-drop}
-use borrow.Author.Tests.{ltb-true, eqb-true, eq-eqb, ne-eqb}
-use Rattle.rules.specs.Sizes.{slots}
+use lib.Seq.{drop-cons, drop-drop, drop-at, getD-drop}
+use borrow.Author.Tests.{ltb-true, lt-ltb, eqb-true, eq-eqb, ne-eqb}
+use Rattle.rules.specs.Sizes.{slots, allSlots}
 use Rattle.rules.specs.State.{Places, nothing, slot, Holds}
 use Rattle.rules.specs.Turn.{present}
 use Rattle.rules.specs.Image.{Entry, Bytes, noDomain, entryBytes, byte, entryAt, entriesFrom, placeOf, sourceless, sourceOf, capabilityOf, given, risingFrom, rising, sourceBytes, entryFor, occupied, entriesFor}
+use Rattle.rules.specs.declared.Capability.{Capability}
 use Rattle.rules.proofs.Laws.{both}
-use Rattle.rules.proofs.Places.{same?}
+use Rattle.rules.proofs.Places.{same?, resourced}
 
 -- ---- entries in rising order
 
@@ -35,6 +36,16 @@ rising-rises (e ∷ es) h = (omega arith, from e es h)
     from : (e : Entry) (es : List Entry) → risingFrom e es ≡ true → Rises (suc (placeOf e)) es
     from e [] h = tt
     from e (f ∷ fs) h = let (t, u) = both (ltb (placeOf e) (placeOf f)) _ h in (ltb-true _ _ t, from f fs u)
+
+-- and is told by this
+pub rises-rising : (p : ℕ) (es : List Entry) → Rises p es → rising es ≡ true
+unfolding rising risingFrom
+rises-rising p [] r = refl
+rises-rising p (e ∷ es) r = from e es (r .1)
+  where
+    from : (e : Entry) (es : List Entry) → Rises (suc (placeOf e)) es → risingFrom e es ≡ true
+    from e [] r = refl
+    from e (f ∷ fs) r = rw (lt-ltb _ _ (r .0)) (from f fs (r .1))
 
 -- such entries give nothing before place p
 pub given-before : (p q : ℕ) (es : List Entry) → Rises p es → q < p → given es q ≡ nothing
@@ -55,6 +66,14 @@ module _ (at : Places) where
   occupied-empty : (n p : ℕ) → at p .kind ≡ 0 → occupied at (suc n) p ≡ occupied at n (suc p)
   unfolding occupied present
   occupied-empty n p h = rw h
+
+  -- they are no more than there are places
+  pub occupied-most : (n p : ℕ) → length (occupied at n p) ≤ n
+  unfolding occupied
+  occupied-most zero p = omega arith
+  occupied-most (suc n) p =
+      ⊎-elim (λ z. rw (occupied-empty n p z) (omega (arith, occupied-most n (suc p)))) (λ h. rw (occupied-there n p h) (omega (arith, occupied-most n (suc p))))
+      (same? (at p .kind) 0)
 
   -- the places that hold what entries in rising order give are the entries' places, in their order
   pub occupied-places : (n p : ℕ) (es : List Entry) → Rises p es
@@ -129,3 +148,105 @@ module _ (b : List ℕ) (y : Bytes b) (at : Places) where
       rw (c, entries-written n (i + entryBytes) (omega arith) (λ e m. fit e (List·Memᴰ·tail m)), entry-here b i, ← (drop-drop entryBytes i b))
       (entry-written (drop i b) (λ k. simp getD-drop (y (i + k))) (simp length-drop (omega arith)) (rw (entry-here b i) at x) (rw (entry-here b i) at z)
       (rw (entry-here b i) at s))
+
+-- ---- the entries of a state
+
+-- the entry that is written for place p, which holds c
+abbrev pub entryOf : ℕ → Capability → Entry
+entryOf p c =
+    record {
+      domain = p / slots;
+      slot = p % slots;
+      kind = c .kind;
+      rights = c .rights;
+      object = c .object;
+      badge = c .badge;
+      sourceDomain = byte (sourceBytes (c .source)) 0;
+      sourceSlot = byte (sourceBytes (c .source)) 1;
+      last = 0;
+    }
+
+-- a source has two bytes
+source-two : (x : ℕ) → sourceBytes x ≡ byte (sourceBytes x) 0 ∷ byte (sourceBytes x) 1 ∷ []
+unfolding sourceBytes
+source-two zero = refl
+source-two (suc p) = refl
+
+-- an entry has twelve bytes
+pub entry-length : (p : ℕ) (c : Capability) → length (entryFor p c) ≡ entryBytes
+unfolding entryFor
+entry-length p c = rw (source-two (c .source))
+
+-- it is read from what is written for its place
+pub entry-read : (p : ℕ) (c : Capability) (l : List ℕ) → entryAt (entryFor p c ++ l) 0 ≡ entryOf p c
+unfolding entryAt entryFor
+entry-read p c l = rw (source-two (c .source)) (simp div-add-mod')
+
+-- it stands for its place
+pub place-back : (p : ℕ) (c : Capability) → placeOf (entryOf p c) ≡ p
+place-back p c = omega arith
+
+-- its source is that of what the place holds
+pub source-back : (p : ℕ) (c : Capability) (x : ℕ) → c .source ≡ x → x ≤ allSlots → sourceOf (entryOf p c) ≡ x
+unfolding sourceOf sourceless sourceBytes
+source-back p c zero e l = rw e
+source-back p c (suc q) e l = rw (e, ne-eqb (q / slots) noDomain (λ z. omega arith)) (omega arith)
+
+-- and it stands for what the place holds
+pub capability-back : (p : ℕ) (c : Capability) → c .source ≤ allSlots → capabilityOf (entryOf p c) ≡ c
+unfolding capabilityOf
+capability-back p c h = ap (resourced c) (source-back p c _ refl h)
+
+module _ (at : Places) where
+  -- the entries that are written for places
+  abbrev pub entriesOf : List ℕ → List Entry
+  entriesOf ps = map (λ p. entryOf p (at p)) ps
+
+  -- their bytes
+  pub entries-bytes : (ps : List ℕ) → length (entriesFor at ps) ≡ entryBytes * length ps
+  unfolding entriesFor
+  entries-bytes [] = refl
+  entries-bytes (p ∷ ps) = rw length-append (omega (arith, entry-length p (at p), entries-bytes ps))
+
+  -- they are read from those
+  pub entries-read : (ps b : List ℕ) (i : ℕ) → drop i b ≡ entriesFor at ps → entriesFrom b (length ps) i ≡ entriesOf ps
+  unfolding entriesFrom entriesFor
+  entries-read [] b i h = refl
+  entries-read (p ∷ ps) b i h =
+      ap₂ _∷_ (entry-here b i ∙ rw h (entry-read p (at p) _))
+      (entries-read ps b (i + entryBytes) (rw (← (drop-drop entryBytes i b), h) (drop-at (entryFor p (at p)) _ _ (entry-length p (at p)))))
+
+  -- those for the places that hold a capability rise
+  pub entries-rise : (n p k : ℕ) → k ≤ p → Rises k (entriesOf (occupied at n p))
+  unfolding occupied
+  entries-rise zero p k l = tt
+  entries-rise (suc n) p k l =
+      ⊎-elim (λ z. rw (occupied-empty at n p z) (entries-rise n (suc p) k (omega arith)))
+      (λ h. rw (occupied-there at n p h) (omega arith, entries-rise n (suc p) _ (omega arith)))
+      (same? (at p .kind) 0)
+
+  -- each is for a place that holds a capability
+  pub entry-of : (n p : ℕ) {e : Entry} → List·Memᴰ e (entriesOf (occupied at n p)) → (q : ℕ) × (e ≡ entryOf q (at q)) × (q < p + n) × Holds at q
+  unfolding occupied
+  entry-of zero p m = elim m [ ]
+  entry-of (suc n) p {e} m =
+      ⊎-elim (λ z. later (entry-of n (suc p) (rw (occupied-empty at n p z) at m)))
+      (λ h. ⊎-elim (λ i. (p, i, omega arith, h)) (λ k. later (entry-of n (suc p) k)) (List·Memᴰ·cases-cons (rw (occupied-there at n p h) at m)))
+      (same? (at p .kind) 0)
+    where
+      later : (q : ℕ) × (e ≡ entryOf q (at q)) × (q < suc p + n) × Holds at q → (q : ℕ) × (e ≡ entryOf q (at q)) × (q < p + suc n) × Holds at q
+      later r = let (q, i, l, h) = r in (q, i, omega arith, h)
+
+  module _ (sources : (q : ℕ) → Holds at q → at q .source ≤ allSlots) (empty : (q : ℕ) → at q .kind ≡ 0 → at q ≡ nothing) where
+    -- they give what the places hold, where there is nothing after these
+    pub given-back : (n p q : ℕ) → p ≤ q → (p + n ≤ q → at q .kind ≡ 0) → given (entriesOf (occupied at n p)) q ≡ at q
+    unfolding occupied given
+    given-back zero p q l none = sym (empty q (none (omega arith)))
+    given-back (suc n) p q l none =
+        ⊎-elim (λ (z : at p .kind ≡ 0). rw (occupied-empty at n p z)
+        (⊎-elim (λ (i : q ≡ p). given-before (suc p) q (entriesOf (occupied at n (suc p))) (entries-rise n (suc p) (suc p) (omega arith)) (omega arith) ∙ sym (empty q (rw i z)))
+        (λ (i : q ≡ p → ⊥). given-back n (suc p) q (omega arith) (λ k. none (omega arith))) (same? q p)))
+        (λ (h : Holds at p). rw (occupied-there at n p h)
+        (⊎-elim (λ (i : q ≡ p). rw (eq-eqb q (placeOf (entryOf p (at p))) (omega arith)) (rw i (capability-back p (at p) (sources p h))))
+        (λ (i : q ≡ p → ⊥). rw (ne-eqb q (placeOf (entryOf p (at p))) (λ k. i (omega arith))) (given-back n (suc p) q (omega arith) (λ k. none (omega arith)))) (same? q p)))
+        (same? (at p .kind) 0)
