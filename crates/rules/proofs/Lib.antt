@@ -22,5 +22,4 @@ pub mod Promise
 pub mod Certificate
 pub mod Worked
 pub mod RoundTripEntries
-pub mod RoundTripWritten
-pub mod RoundTripRead
+pub mod RoundTrip

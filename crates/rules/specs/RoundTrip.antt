@@ -6,6 +6,7 @@ use Prim.Native.Nat.{ℕ, _≤_}
 use Rattle.rules.specs.Sizes.{frameWords, mailboxes, bells}
 use Rattle.rules.specs.State.{State, noMessage, Section4, Formed}
 use Rattle.rules.specs.Image.{Bytes, imageOf, boot, refusalOf, accepted, read, image, write}
+use Rattle.rules.specs.Authority.{Reached}
 
 -- writing what was read gives the bytes back, for every accepted image
 abbrev pub WrittenRead : Type 0
@@ -15,7 +16,7 @@ WrittenRead = (b : List ℕ) → Bytes b → refusalOf b ≡ 0 → write (boot (
 abbrev pub OneWay : Type 0
 OneWay = (b c : List ℕ) → Bytes b → Bytes c → refusalOf b ≡ 0 → refusalOf c ≡ 0 → boot (imageOf b) ≡ boot (imageOf c) → b ≡ c
 
--- a state has nothing outside the sizes of section 1; what Formed does not say already
+-- a state has nothing outside the sizes of section 1: of places Formed says so already
 pub record Proper (s : State) : Type 0 where
   -- the words of the frames that there are not are 0
   pub frames : (f : ℕ) → s .frames ≤ f → (w : ℕ) → s .word f w ≡ 0
@@ -29,3 +30,7 @@ pub record Proper (s : State) : Type 0 where
 -- reading what was written gives the state back
 abbrev pub ReadWritten : Type 0
 ReadWritten = (s : State) → Formed s → Section4 (s .capability) → Proper s → (b : List ℕ) → write s ≡ image b → read b ≡ accepted s
+
+-- this asks nothing more of a reached state: each is Proper, as each is Formed and keeps section 4
+abbrev pub ProperAlways : Type 0
+ProperAlways = (b : List ℕ) (s : State) → Reached b s → Proper s
