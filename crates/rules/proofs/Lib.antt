@@ -24,3 +24,5 @@ pub mod Promise
 pub mod All
 pub mod Certificate
 pub mod Worked
+pub mod RoundTripEntries
+pub mod RoundTrip

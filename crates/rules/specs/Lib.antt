@@ -7,3 +7,4 @@ pub mod Worked
 pub mod Authority
 pub mod Partition
 pub mod History
+pub mod RoundTrip
