@@ -93,8 +93,8 @@ module _ (b : List ℕ) (y : Bytes b) (form : FormRight b) (able : Bootable (ima
       let last = form .last in
       let u : byte b 6 ≡ 0 = omega arith in
       let v : byte b 7 ≡ 0 = omega arith in
-      rw (places-read, entries-back, length-map, table-length, after-header)
-      (simp (entries-length, digits-div, digits-mod) (rw (u, v) at (span-drop b headerBytes 0 (form .header))))
+      rw (places-read, entries-back, length-map, table-length)
+      (simp (entries-length, digits-div, digits-mod) (rw (u, v, ← after-header) at (span-drop b headerBytes 0 (form .header))))
 
 -- a test that passes at each number passes at all below n
 all-below : (f : ℕ → Bool) → ((i : ℕ) → f i ≡ true) → (n : ℕ) → allBelow n f ≡ true
@@ -140,12 +140,12 @@ blank {s} f p w =
     let (post, kept) = both _ _ g in
     let mail : (m : ℕ) → m < mailboxes → not (full (s .message m)) ≡ true = below-at _ _ post in
     let words : (i : ℕ) → i < s .frames → allBelow frameWords (λ j. eqb (s .word i j) 0) ≡ true = below-at _ _ kept in
+    let word : (i : ℕ) → i < s .frames → (j : ℕ) → j < frameWords → eqb (s .word i j) 0 ≡ true = λ i l. below-at _ _ (words i l) in
     let bell : (b : ℕ) → b < bells → eqb (s .bell b) 0 ≡ true = below-at _ _ rung in
-    let word : (i j : ℕ) → i < s .frames → j < frameWords → eqb (s .word i j) 0 ≡ true = λ i j l. below-at _ _ (words i l) j in
     record {
       mail = fun-ext (λ m. ⊎-elim (λ l. f .emptied m (present-false _ (mail m l)) .0) (p .mailboxes m) (below? m mailboxes));
       word = fun-ext (λ i. fun-ext (λ j.
-          ⊎-elim (λ l. ⊎-elim (λ k. eqb-true _ _ (word i j l k)) (p .words i j) (below? j frameWords)) (λ l. p .frames i l j) (below? i (s .frames))));
+          ⊎-elim (λ l. ⊎-elim (λ k. eqb-true _ _ (word i l j k)) (p .words i j) (below? j frameWords)) (λ l. p .frames i l j) (below? i (s .frames))));
       bell = fun-ext (λ b. ⊎-elim (λ l. eqb-true _ _ (bell b l)) (p .bells b) (below? b bells));
       position = eqb-true _ _ first;
     }
@@ -186,7 +186,7 @@ module _ (s : State) where
   abbrev imageFor : Image
   imageFor = record { domains = s .domains; frames = s .frames; turns = s .turns; entries = entriesOf (s .capability) filled }
 
-  -- the bytes after the table up to a multiple of 4
+  -- how many bytes follow the table up to a multiple of 4, and these
   abbrev short : ℕ
   short = padded (length (s .turns)) - length (s .turns)
 
@@ -205,7 +205,8 @@ module _ (s : State) where
   padding-read : paddingOf (bytesFor s) ≡ padding
   unfolding paddingOf bytesFor
   padding-read =
-      rw (← (drop-drop (length (s .turns)) headerBytes (bytesFor s)), drop-at (s .turns) _ _ refl) (take-at padding (entriesFor (s .capability) filled) short (length-replicate {A = ℕ} short 0))
+      rw (← (drop-drop (length (s .turns)) headerBytes (bytesFor s)), drop-at (s .turns) _ _ refl)
+      (take-at padding (entriesFor (s .capability) filled) short (length-replicate {A = ℕ} short 0))
 
   entries-there : drop (entriesAt (length (s .turns))) (bytesFor s) ≡ entriesFor (s .capability) filled
   unfolding entriesAt bytesFor padded
@@ -223,6 +224,11 @@ module _ (s : State) where
   unfolding bytesFor lengthFor entriesAt padded
   bytes-length = simp (length-append, length-replicate, entries-bytes) (omega arith)
 
+  -- the test of refusal 22
+  length-right : lengthRight (bytesFor s) ≡ true
+  unfolding lengthRight bytesFor
+  length-right = simp div-add-mod' (eq-eqb _ _ bytes-length)
+
   module _ (f : Formed s) where
     -- the test of refusal 21
     sizes-right : sizesRight (bytesFor s) ≡ true
@@ -232,11 +238,6 @@ module _ (s : State) where
         (le-leb _ _ (f .domains .0) also le-leb _ _ (f .domains .1)) also (le-leb _ _ (f .table .0) also le-leb _ _ (f .table .1))
         also le-leb (sizeC (bytesFor s)) entriesMost (omega (arith, occupied-most (s .capability) (slot (s .domains) 0) 0))
         also (le-leb 1 (sizeF (bytesFor s)) (omega arith) also le-leb (sizeF (bytesFor s)) framesMost (omega arith)) also refl
-
-    -- the test of refusal 22
-    length-right : lengthRight (bytesFor s) ≡ true
-    unfolding lengthRight bytesFor
-    length-right = simp div-add-mod' (eq-eqb _ _ bytes-length)
 
     -- the test of refusal 23
     turns-right : turnsRight (bytesFor s) ≡ true
@@ -290,7 +291,7 @@ module _ (s : State) where
     bytes-accepted : refusalOf (bytesFor s) ≡ 0
     bytes-accepted = accepted-exactly _ (form-passes f) .1 (rw image-read (record { defined = defined-back; section4 = rw places-back a }))
 
-    -- the state at boot
+    -- what boots is the state
     boot-back : boot imageFor ≡ s
     unfolding boot
     boot-back = rw (places-back, ← (k .mail), ← (k .word), ← (k .bell), ← (k .position))
