@@ -3,13 +3,7 @@
 set -u
 cd "$(dirname "$0")/.." || exit 2
 specs=crates/rules/specs
-bad=0
-
-check() { # NAME COMMAND..: a case that passes where the command succeeds
-  local name=$1
-  shift
-  if "$@"; then echo "ok $name"; else echo "not ok $name"; bad=1; fi
-}
+. tests/lib.sh
 
 # The definitions that the theorems speak of, without the worked example and the statements themselves.
 believed() { (cd "$specs" && cat Sizes.antt State.antt Turn.antt Image.antt Flow.antt); }
@@ -18,7 +12,7 @@ short() { n=$(definitions); echo "# $n lines of definitions"; [ "$n" -lt 500 ]; 
 
 # Sizes are named in Sizes.antt: 64, 256, 1,024, 1,088 and 65,535 stand nowhere else. 256 is also the value of a byte's place.
 sizes_once() {
-  ! (cd "$specs" && grep -nE '(^|[^0-9A-Za-z])(64|1024|1088|65535)([^0-9]|$)' State.antt Turn.antt Image.antt Flow.antt Authority.antt History.antt Partition.antt | grep -v ':[0-9]*: *--')
+  ! (cd "$specs" && grep -nE '(^|[^0-9A-Za-z])(64|1024|1088|65535)([^0-9]|$)' State.antt Turn.antt Image.antt Flow.antt Authority.antt History.antt Partition.antt RoundTrip.antt | grep -v ':[0-9]*: *--')
 }
 
 no_code_words() { ! believed | sed 's/--.*//' | grep -niE 'memory|offset|visit|loop'; }
@@ -32,7 +26,7 @@ each_crate_listed() {
 # Each statement of specs/ has a proof in proofs/ whose type is its name.
 each_statement_proved() {
   local missing=0 name
-  for name in $(sed -nE 's/^abbrev pub ([A-Z][A-Za-z0-9]*) : Type 0$/\1/p' $specs/Authority.antt $specs/History.antt $specs/Partition.antt); do
+  for name in $(sed -nE 's/^abbrev pub ([A-Z][A-Za-z0-9]*) : Type 0$/\1/p' $specs/Authority.antt $specs/History.antt $specs/Partition.antt $specs/RoundTrip.antt); do
     case $name in Program | Programs) continue ;; esac
     grep -rqE "^ *pub [a-z0-9-]+ : $name\$" crates/rules/proofs || { echo "# $name has no proof"; missing=1; }
   done

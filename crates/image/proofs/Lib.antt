@@ -1,0 +1,4 @@
+pub mod Form
+pub mod Index
+pub mod Tied
+pub mod Marks
