@@ -1,0 +1,4 @@
+pub mod Masks
+pub mod Cells
+pub mod Edges
+pub mod Answer
