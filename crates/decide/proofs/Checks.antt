@@ -2,7 +2,7 @@
 -- an operation ends, and what the tests come to. The proof of an operation opens its rule and searches with the set checks.
 -- Assumes nothing.
 use mathlib.Core.Path.{_≡_, refl, sym, ap, _∙_, subst}
-use mathlib.Core.Bool.{Bool, true, false, cond, not, _&&_, _||_}
+use mathlib.Core.Bool.{Bool, true, false, not, _&&_, _||_}
 use mathlib.Core.List.{List}
 use Prim.Native.Nat.{ℕ, zero, suc, _≤_, _<_, zero-le}
 use native.Mathlib.Nat.{le-of-lt}
@@ -12,16 +12,15 @@ use lib.Bits.{bitAnd}
 use lib.ListN.{List·getD-eq-default}
 use borrow.Author.Tests.{lt-ltb, le-ltb, le-leb, lt-leb, eq-eqb, ne-eqb, eqb-false, ltb-true}
 use Rattle.rules.specs.Sizes.{mailboxes}
-use Rattle.rules.specs.State.{State, within}
-use Rattle.rules.specs.Turn.{_then_else_, held, present, conclude, unknown, named, decided, decide}
+use Rattle.rules.specs.State.{State, MAILBOX, WRITE, within}
+use Rattle.rules.specs.Turn.{_then_else_, held, present, slotFor, conclude, unknown, named, decided, decide}
 use Rattle.rules.specs.declared.Capability.{Capability}
 use Rattle.rules.specs.declared.Message.{Message}
 use Rattle.rules.specs.declared.Operation.{Operation}
 use Rattle.rules.specs.declared.Answer.{Answer}
 use Rattle.rules.specs.declared.Effect.{Effect}
-use Rattle.rules.specs.declared.Decision.{Decision}
 use Rattle.layout.specs.Layout.{size, cells, ofCells, stateOf}
-use Rattle.decide.specs.Decides.{looks, Decides, Looks, refusedBy}
+use Rattle.decide.specs.Decides.{looks, Decides, Looks, Carries, checksAlong, refusedBy}
 use Rattle.decide.specs.declared.Decided.{Decided}
 use Rattle.decide.specs.declared.look.Looked.{Looked}
 
@@ -48,10 +47,12 @@ goes-on (suc k) e b n p q = rw (← p)
 pub looked-up : {r : Looked} (s : State) (d x e v : ℕ) → Looks r s d x e v → r .refusal ≡ 0 → 0 ≡ e
 looked-up s d x e v l z = sym z ∙ l .refusal
 
-pub found : {r : Looked} {s : State} {d x e v : ℕ} → Looks r s d x e v → r .refusal ≡ 0 → r .capability ≡ held s d x
-found l z = l .capability z
+-- the checks of SEND's argument c, after those of its slot
+pub carried : {k a : Looked} {s : State} {d x c v u : ℕ} → Looks k s d x (slotFor s d x MAILBOX WRITE) v → k .refusal ≡ 0
+    → Carries a s d c (k .capability .rights) u → a .refusal ≡ checksAlong s d c (held s d x .rights) (slotFor s d x MAILBOX WRITE)
+carried l z m = let h = l .capability z in let i = l .refusal in let j = m .refusal in cc
 
--- what would follow had nothing been refused
+-- a refusal is not 0
 pub never : {A : Type 0} (k : ℕ) → eqb k 0 ≡ false → k ≡ 0 → A
 never k h e = absurd (eqb-false k 0 h e)
 
@@ -67,7 +68,7 @@ module _ {r : Decided} {most : ℕ} (e : ℕ) (f : Effect) (a : Answer) where
   unfolding conclude
   is-done q p l = record { decision = p ∙ rw (← q); visits = l }
 
--- ---- tests
+-- ---- tests: what each comes to, from what the code found
 
 pub not-yes : (b : Bool) → b ≡ true → not b ≡ false
 not-yes b e = rw e
@@ -166,4 +167,10 @@ module _ {r : Decided} (s : State) (d : ℕ) (o : Operation) where
   unfolding decide decided named conclude
   by-no-number h k = record { decision = rw (List·getD-eq-default _ unknown (past (o .number) 11 h)) (k .0); visits = let g = k .1 in omega arith }
 
-pub ruleset checks = (stands, refuses, goes-on, looked-up, is-refused, is-done, ne-eqb, not-yes, not-no, either, first-of, neither, both, not-first, not-second, lt-ltb, le-ltb, le-leb, lt-leb, below-leb, holds-law, empty-law, kind-law, not-kind-law, is-within, not-within, right-law, not-right-law, full-law, not-full-law, arith)
+pub ruleset order = (stands, refuses, goes-on, looked-up)
+
+pub ruleset tests = (not-yes, not-no, either, first-of, neither, both, not-first, not-second, ne-eqb, lt-ltb, le-ltb, le-leb, lt-leb, below-leb, is-within, not-within)
+
+pub ruleset contents = (holds-law, empty-law, kind-law, not-kind-law, right-law, not-right-law, full-law, not-full-law)
+
+pub ruleset checks = (order, tests, contents, arith)

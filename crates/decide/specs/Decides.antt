@@ -1,11 +1,12 @@
--- The contracts of the checks: what looking a slot up gives, and what a decision is. Assumes nothing.
+-- The contracts of the checks: what a decision is, what looking a slot up gives, what goes along in a SEND, and what a RECEIVE takes.
+-- Assumes nothing.
 use mathlib.Core.Path.{_≡_}
 use mathlib.Core.Bool.{cond, not, _||_}
-use lib.Dec.{leb}
 use Prim.Native.Nat.{ℕ, _+_, _*_, _^_, _≤_, _<_}
-use Rattle.rules.specs.Sizes.{slots}
-use Rattle.rules.specs.State.{State, GRANT, within, slot, nothing}
-use Rattle.rules.specs.Turn.{_then_else_, held, holds, goes, copied, moves, words, refusal, Name, IDLE, LOAD, STORE, DERIVE, DELETE, REVOKE, RING, HEAR, SEND, RECEIVE, LOOK, unknown}
+use lib.Dec.{leb, ltb}
+use Rattle.rules.specs.Sizes.{slots, frameWords}
+use Rattle.rules.specs.State.{State, FRAME, GRANT, within, slot, nothing}
+use Rattle.rules.specs.Turn.{_then_else_, held, holds, slotFor, goes, copied, moves, words, refusal, Name, IDLE, LOAD, STORE, DERIVE, DELETE, REVOKE, RING, HEAR, SEND, RECEIVE, LOOK, unknown}
 use Rattle.rules.specs.declared.Message.{Message}
 use Rattle.rules.specs.declared.Operation.{Operation}
 use Rattle.rules.specs.declared.Effect.{Effect}
@@ -54,13 +55,22 @@ pub record Looks (r : Looked) (s : State) (d x e before : ℕ) : Type 0 where
   pub slot : x < slots + 2 ^ 32 * r .refusal
   pub visits : r .visits ≤ before + 1
 
--- the checks of SEND's argument c, by a capability with those rights, came to what goes along, after so many visits
+-- the checks of LOAD and STORE: slot x for a frame with that right, and w one of its words
+abbrev pub wordFor : State → ℕ → ℕ → ℕ → ℕ → ℕ
+wordFor s d x w right = slotFor s d x FRAME right then ltb w frameWords else 6
+
+-- the checks of SEND's argument c, by a capability with those rights, after checks that came to e
+abbrev pub checksAlong : State → ℕ → ℕ → ℕ → ℕ → ℕ
+checksAlong s d c rights e =
+    e then leb c slots else 2 then not (goes c) || within GRANT rights else 5 then not (goes c) || holds (held s d c) else 3
+
+-- what goes along from slot c of domain d was looked up with those checks, after so many visits
 pub record Carries (r : Looked) (s : State) (d c rights before : ℕ) : Type 0 where
-  pub refusal : r .refusal ≡ (0 then leb c slots else 2 then not (goes c) || within GRANT rights else 5 then not (goes c) || holds (held s d c) else 3)
+  pub refusal : r .refusal ≡ checksAlong s d c rights 0
   pub capability : r .refusal ≡ 0 → r .capability ≡ cond (goes c) (copied (held s d c) (slot d c)) nothing
   pub visits : r .visits ≤ before + 1
 
--- mailbox m was emptied by domain d with slot t for a capability under way, after so many visits
+-- what a RECEIVE by domain d from mailbox m with argument t does was found, after so many visits
 pub record Takes (r : Taken) (s : State) (d m t before : ℕ) : Type 0 where
   pub effect : r .effect ≡ cond (moves s d m t) (Move m (slot d t)) (Take m)
   pub flag : r .flag ≡ cond (moves s d m t) 1 0

@@ -114,39 +114,33 @@ pub struct Taken {
     pub visits: u32,
 }
 
+fn taking(effect: Effect, flag: u32, visits: u32) -> Taken
+    ensures { λ r. ⌜ (r .effect ≡ effect) × (r .flag ≡ flag) × (r .visits ≡ visits) ⌝ }
+{
+    Taken {
+        effect,
+        flag,
+        visits,
+    }
+}
+
 // Taking from mailbox m, with t for the capability under way: it moves where there is one and t is an empty slot. At most two visits.
 fn take(mem: &[u32], d: u32, m: u32, t: u32, visits: u32) -> Taken
     requires { ⌜ Enough (now mem) ⌝ ∗ ⌜ d < domainsMost ⌝ ∗ ⌜ m < mailboxes ⌝ ∗ ⌜ visits < 8 ⌝ }
     ensures { λ r. ⌜ Takes r (stateOf (now (mem .entry))) d m t visits ⌝ }
 {
     if t >= 64 {
-        return Taken {
-            effect: Effect::Take(m),
-            flag: 0,
-            visits,
-        };
+        return taking(Effect::Take(m), 0, visits);
     }
     let under = layout::see(mem, 1024 + m, visits);
     if under.capability.kind == 0 {
-        return Taken {
-            effect: Effect::Take(m),
-            flag: 0,
-            visits: under.visits,
-        };
+        return taking(Effect::Take(m), 0, under.visits);
     }
     let to = layout::see(mem, d * 64 + t, under.visits);
     if to.capability.kind != 0 {
-        return Taken {
-            effect: Effect::Take(m),
-            flag: 0,
-            visits: to.visits,
-        };
+        return taking(Effect::Take(m), 0, to.visits);
     }
-    Taken {
-        effect: Effect::Move(m, d * 64 + t),
-        flag: 1,
-        visits: to.visits,
-    }
+    taking(Effect::Move(m, d * 64 + t), 1, to.visits)
 }
 
 pub fn receive(mem: &[u32], d: u32, x: u32, t: u32) -> Decided
@@ -165,8 +159,8 @@ pub fn receive(mem: &[u32], d: u32, x: u32, t: u32) -> Decided
     if g.full == 0 {
         return refused(9, k.visits);
     }
-    let taken = take(mem, d, m, t, k.visits);
-    let effect = taken.effect;
+    let y = take(mem, d, m, t, k.visits);
+    let effect = y.effect;
     Decided {
         decision: Decision {
             effect,
@@ -177,9 +171,9 @@ pub fn receive(mem: &[u32], d: u32, x: u32, t: u32) -> Decided
                 w2: g.w1,
                 w3: g.w2,
                 w4: g.w3,
-                w5: taken.flag,
+                w5: y.flag,
             },
         },
-        visits: taken.visits,
+        visits: y.visits,
     }
 }

@@ -1,7 +1,9 @@
 // The operations on frames, bells and a domain's own slots.
 use crate::Decided;
+use crate::look::Looked;
 use crate::look::any_slot;
 use crate::look::done;
+use crate::look::nothing;
 use crate::look::refused;
 use crate::look::slot_for;
 use rules::Answer;
@@ -15,7 +17,7 @@ ghost use lib.Dec.{eqb};
 ghost use Rattle.rules.specs.Sizes.{domainsMost, allSlots};
 ghost use Rattle.rules.specs.Turn.{load as loadRule, store as storeRule, derived as derivedRule, derive as deriveRule, delete as deleteRule, revoke as revokeRule, ring as ringRule, hear as hearRule, look as lookRule};
 ghost use Rattle.layout.specs.Layout.{stateOf, Enough};
-ghost use Rattle.decide.specs.Decides.{Decides, doneBy};
+ghost use Rattle.decide.specs.Decides.{Decides, Looks, wordFor, doneBy};
 
 pub fn idle() -> Decided
     ensures { λ r. ⌜ Decides r (doneBy Effect.Nothing 0) 0 ⌝ }
@@ -23,16 +25,32 @@ pub fn idle() -> Decided
     done(Effect::Nothing, 0, 0)
 }
 
+// Slot x of domain d for a frame with that right, and w one of its words: at most one visit.
+fn word_for(mem: &[u32], d: u32, x: u32, w: u32, right: u32) -> Looked
+    requires { ⌜ Enough (now mem) ⌝ ∗ ⌜ d < domainsMost ⌝ }
+    ensures { λ r. ⌜ Looks r (stateOf (now (mem .entry))) d x (wordFor (stateOf (now (mem .entry))) d x w right) 0 ⌝ }
+{
+    let k = slot_for(mem, d, x, 1, right);
+    if k.refusal != 0 {
+        return k;
+    }
+    if w >= 256 {
+        return Looked {
+            refusal: 6,
+            capability: nothing(),
+            visits: k.visits,
+        };
+    }
+    k
+}
+
 pub fn load(mem: &[u32], d: u32, x: u32, w: u32) -> Decided
     requires { ⌜ Enough (now mem) ⌝ ∗ ⌜ d < domainsMost ⌝ }
     ensures { λ r. ⌜ Decides r (loadRule (stateOf (now (mem .entry))) d x w) 1 ⌝ }
 {
-    let k = slot_for(mem, d, x, 1, 1);
+    let k = word_for(mem, d, x, w, 1);
     if k.refusal != 0 {
         return refused(k.refusal, k.visits);
-    }
-    if w >= 256 {
-        return refused(6, k.visits);
     }
     done(
         Effect::Nothing,
@@ -45,12 +63,9 @@ pub fn store(mem: &[u32], d: u32, x: u32, w: u32, v: u32) -> Decided
     requires { ⌜ Enough (now mem) ⌝ ∗ ⌜ d < domainsMost ⌝ }
     ensures { λ r. ⌜ Decides r (storeRule (stateOf (now (mem .entry))) d x w v) 1 ⌝ }
 {
-    let k = slot_for(mem, d, x, 1, 2);
+    let k = word_for(mem, d, x, w, 2);
     if k.refusal != 0 {
         return refused(k.refusal, k.visits);
-    }
-    if w >= 256 {
-        return refused(6, k.visits);
     }
     done(Effect::Store(k.capability.object, w, v), 0, k.visits)
 }

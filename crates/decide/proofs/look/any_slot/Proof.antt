@@ -1,8 +1,8 @@
 -- `decide::look::any_slot` meets its contract. Assumes nothing.
+use native.Mathlib.Omega.{arith}
 use borrow.Author.Needs.{needs}
-use borrow.Author.Tests.{eqb-false}
 use mathlib.Core.Path.{refl}
-use Rattle.decide.proofs.Checks.{checks, is-done, is-refused}
+use Rattle.decide.proofs.Checks.{checks, never}
 use Rattle.rules.specs.Turn.{anySlot}
 use Rattle.decide.proofs.look.any_slot.Statement.{statement}
 use Rattle.decide.proofs.look.any_slot.Tie as tie
@@ -12,7 +12,7 @@ nothing-requires c κs = search needs
 
 returns : tie.Need-returns
 unfolding anySlot
-returns c = record { refusal = search checks; capability = λ e. absurd (eqb-false 2 0 refl e); slot = search checks; visits = search checks }
+returns c = record { refusal = search checks; capability = never 2 refl; slot = search checks; visits = omega arith }
 
 mul-see : tie.Need-mul-see
 mul-see c = search needs

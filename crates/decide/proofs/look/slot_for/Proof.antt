@@ -1,6 +1,6 @@
 -- `decide::look::slot_for` meets its contract. Assumes nothing.
 use borrow.Author.Needs.{needs}
-use Rattle.decide.proofs.Checks.{checks, is-done, is-refused}
+use Rattle.decide.proofs.Checks.{checks}
 use Rattle.rules.specs.Turn.{slotFor}
 use Rattle.decide.proofs.look.slot_for.Statement.{statement}
 use Rattle.decide.proofs.look.slot_for.Tie as tie
@@ -14,15 +14,24 @@ returns c = search checks
 
 returns-2 : tie.Need-returns-2
 unfolding slotFor
-returns-2 c = let k = c .before .before .before in let h = k .before .before .any-slot .ensures .capability (k .if1 .left) in search checks
+returns-2 c =
+    let k = c .before .before .before in
+    let h = k .before .before .any-slot .ensures .capability (k .if1 .left) in
+    search checks
 
 returns-3 : tie.Need-returns-3
 unfolding slotFor
-returns-3 c = let k = c .before .before .before .before .before in let h = k .before .before .any-slot .ensures .capability (k .if1 .left) in search checks
+returns-3 c =
+    let k = c .before .before .before .before .before in
+    let h = k .before .before .any-slot .ensures .capability (k .if1 .left) in
+    search checks
 
 returns-4 : tie.Need-returns-4
 unfolding slotFor
-returns-4 c = let k = c .before .before .before .before .before in let h = k .before .before .any-slot .ensures .capability (k .if1 .left) in search checks
+returns-4 c =
+    let k = c .before .before .before .before .before in
+    let h = k .before .before .any-slot .ensures .capability (k .if1 .left) in
+    search checks
 
 pub slot-for-spec : {M : Type 1} → statement M
 slot-for-spec = tie.close (tie.spec any-slot-requires returns returns-2 returns-3 returns-4)

@@ -4,8 +4,7 @@ use borrow.Author.Tests.{lt-ltb}
 use Rattle.rules.specs.Sizes.{slots}
 use mathlib.Core.Path.{refl}
 use borrow.Author.Needs.{needs}
-use Rattle.rules.specs.Turn.{goes}
-use Rattle.decide.proofs.Checks.{checks, stands, refuses, goes-on, found, looked-up, never, is-done, is-refused, full-low}
+use Rattle.decide.proofs.Checks.{checks, never}
 use Rattle.decide.proofs.mail.along.Statement.{statement}
 use Rattle.decide.proofs.mail.along.Tie as tie
 
@@ -13,7 +12,7 @@ nothing-requires : tie.Need-nothing-requires
 nothing-requires c κs = search needs
 
 returns : tie.Need-returns
-returns c = record { refusal = search checks; capability = never 2 refl; visits = search checks }
+returns c = record { refusal = search checks; capability = never 2 refl; visits = omega arith }
 
 nothing-requires-2 : tie.Need-nothing-requires-2
 nothing-requires-2 c κs = search needs
@@ -25,7 +24,7 @@ nothing-requires-3 : tie.Need-nothing-requires-3
 nothing-requires-3 c κs = search needs
 
 returns-3 : tie.Need-returns-3
-returns-3 c = record { refusal = search checks depth 7; capability = never 5 refl; visits = search checks }
+returns-3 c = record { refusal = search checks depth 7; capability = never 5 refl; visits = omega arith }
 
 mul-see : tie.Need-mul-see
 mul-see c = search needs
@@ -40,7 +39,7 @@ nothing-requires-4 : tie.Need-nothing-requires-4
 nothing-requires-4 c κs = search needs
 
 returns-4 : tie.Need-returns-4
-returns-4 c = record { refusal = search checks; capability = never 3 refl; visits = search checks }
+returns-4 c = record { refusal = search checks; capability = never 3 refl; visits = omega arith }
 
 mul-copied : tie.Need-mul-copied
 mul-copied c = search needs
@@ -52,7 +51,12 @@ copied-requires : tie.Need-copied-requires
 copied-requires c κs = search needs
 
 returns-5 : tie.Need-returns-5
-returns-5 c = record { refusal = search checks; capability = λ _. rw (lt-ltb _ slots (c .before .before .before .before .before .if1 .left)) (cc); visits = search checks }
+returns-5 c =
+    record {
+      refusal = search checks;
+      capability = λ _. rw (lt-ltb _ slots (c .before .before .before .before .before .if1 .left), ← (c .before .before .before .see .ensures .0)) (c .copied .ensures);
+      visits = omega arith;
+    }
 
 pub along-spec : {M : Type 1} → statement M
 along-spec =

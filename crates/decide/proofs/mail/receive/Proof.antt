@@ -1,11 +1,9 @@
 -- `decide::mail::receive` meets its contract. Assumes nothing.
 use borrow.Author.Needs.{needs}
 use native.Mathlib.Omega.{arith}
-use borrow.Author.Tests.{lt-ltb}
-use Rattle.rules.specs.Sizes.{slots}
 use mathlib.Core.Path.{refl}
 use Rattle.rules.specs.Turn.{receive}
-use Rattle.decide.proofs.Checks.{checks, stands, refuses, goes-on, found, looked-up, never, is-done, is-refused, full-low}
+use Rattle.decide.proofs.Checks.{checks, looked-up, is-done, is-refused, full-low}
 use Rattle.decide.proofs.mail.receive.Statement.{statement}
 use Rattle.decide.proofs.mail.receive.Tie as tie
 
@@ -17,14 +15,14 @@ refused-requires c κs = search needs
 
 returns : tie.Need-returns
 unfolding receive
-returns c = is-refused _ _ _ (c .refused .ensures) (search checks) (search checks) (search checks)
+returns c = is-refused _ _ _ (c .refused .ensures) (search checks) (search checks) (omega arith)
 
 refused-requires-2 : tie.Need-refused-requires-2
 refused-requires-2 c κs = search needs
 
 returns-2 : tie.Need-returns-2
 unfolding receive
-returns-2 c = is-refused _ _ _ (c .refused2 .ensures) refl (search checks) (search checks)
+returns-2 c = is-refused _ _ _ (c .refused2 .ensures) refl (search checks) (omega arith)
 
 message-requires : tie.Need-message-requires
 message-requires c κs = search needs
@@ -34,14 +32,27 @@ refused-requires-3 c κs = search needs
 
 returns-3 : tie.Need-returns-3
 unfolding receive
-returns-3 c = let k = c .before .before .before .before .before in let h = found (k .before .before .slot-for .ensures) (k .if1 .left) in let z = looked-up _ _ _ _ _ (k .before .before .slot-for .ensures) (k .if1 .left) in is-refused _ _ _ (c .refused3 .ensures) refl (search checks) (search checks)
+returns-3 c =
+    let k = c .before .before .before .before .before in
+    let h = k .before .before .slot-for .ensures .capability (k .if1 .left) in
+    is-refused _ _ _ (c .refused3 .ensures) refl (search checks) (omega arith)
 
 take-requires : tie.Need-take-requires
-take-requires c κs = let k = c .before .before .before .before in let s = k .before .before .before .before in (s .pre .0, (s .pre .1, (full-low _ _ _ (c .if3 .left) (c .before .before .message .ensures), omega (arith, k .before .before .slot-for .ensures .visits))))
+take-requires c κs =
+    let k = c .before .before .before .before in
+    let s = k .before .before .before .before in
+    let v = k .before .before .slot-for .ensures .visits in
+    (s .pre .0, (s .pre .1, (full-low _ _ _ (c .if3 .left) (c .before .before .message .ensures), omega arith)))
 
 returns-4 : tie.Need-returns-4
 unfolding receive
-returns-4 c = let k = c .before .before .before .before .before in let h = found (k .before .before .slot-for .ensures) (k .if1 .left) in let z = looked-up _ _ _ _ _ (k .before .before .slot-for .ensures) (k .if1 .left) in is-done _ _ _ (search checks) (cc) (search checks)
+returns-4 c =
+    let k = c .before .before .before .before .before in
+    let h = k .before .before .slot-for .ensures .capability (k .if1 .left) in
+    let z = looked-up _ _ _ _ _ (k .before .before .slot-for .ensures) (k .if1 .left) in
+    is-done _ _ _ (search checks)
+    (rw (← h, ← (c .before .before .before .message .ensures), ← (c .take .ensures .effect), ← (c .take .ensures .flag)))
+    (omega arith)
 
 pub receive-spec : {M : Type 1} → statement M
 receive-spec =

@@ -1,8 +1,9 @@
 -- `decide::mail::send` meets its contract. Assumes nothing.
-use mathlib.Core.Path.{refl}
+use native.Mathlib.Omega.{arith}
+use mathlib.Core.Path.{refl, sym, _∙_}
 use borrow.Author.Needs.{needs}
 use Rattle.rules.specs.Turn.{send}
-use Rattle.decide.proofs.Checks.{checks, stands, refuses, goes-on, found, looked-up, never, is-done, is-refused, full-low}
+use Rattle.decide.proofs.Checks.{checks, stands, refuses, goes-on, carried, is-refused, is-done}
 use Rattle.decide.proofs.mail.send.Statement.{statement}
 use Rattle.decide.proofs.mail.send.Tie as tie
 
@@ -14,7 +15,7 @@ refused-requires c κs = search needs
 
 returns : tie.Need-returns
 unfolding send
-returns c = is-refused _ _ _ (c .refused .ensures) (search checks) (search checks) (search checks)
+returns c = is-refused _ _ _ (c .refused .ensures) (search checks) (search checks) (omega arith)
 
 along-requires : tie.Need-along-requires
 along-requires c κs = search needs
@@ -24,7 +25,11 @@ refused-requires-2 c κs = search needs
 
 returns-2 : tie.Need-returns-2
 unfolding send
-returns-2 c = let k = c .before .before .before .before .before in let h = found (k .before .before .slot-for .ensures) (k .if1 .left) in let z = looked-up _ _ _ _ _ (k .before .before .slot-for .ensures) (k .if1 .left) in is-refused _ _ _ (c .refused2 .ensures) (search checks) (stands _ _ _ _ (search checks) (cc)) (search checks)
+returns-2 c =
+    let k = c .before .before .before .before .before in
+    is-refused _ _ _ (c .refused2 .ensures) (search checks)
+    (stands _ _ _ _ (search checks) (carried (k .before .before .slot-for .ensures) (k .if1 .left) (c .before .before .before .along .ensures)))
+    (omega arith)
 
 message-requires : tie.Need-message-requires
 message-requires c κs = search needs
@@ -34,7 +39,12 @@ refused-requires-3 c κs = search needs
 
 returns-3 : tie.Need-returns-3
 unfolding send
-returns-3 c = let k = c .before .before .before .before .before .before .before .before in let h = found (k .before .before .slot-for .ensures) (k .if1 .left) in let z = looked-up _ _ _ _ _ (k .before .before .slot-for .ensures) (k .if1 .left) in is-refused _ _ _ (c .refused3 .ensures) refl (refuses _ _ _ (cc) (search checks)) (search checks)
+returns-3 c =
+    let l = c .before .before .before .before in
+    let k = l .before .before .before .before in
+    let h = k .before .before .slot-for .ensures .capability (k .if1 .left) in
+    let z = carried (k .before .before .slot-for .ensures) (k .if1 .left) (l .before .before .along .ensures) in
+    is-refused _ _ _ (c .refused3 .ensures) refl (refuses _ _ _ (sym (l .if2 .left) ∙ z) (search checks)) (omega arith)
 
 written-requires : tie.Need-written-requires
 written-requires c κs = search needs
@@ -44,7 +54,15 @@ done-requires c κs = search needs
 
 returns-4 : tie.Need-returns-4
 unfolding send
-returns-4 c = let k = c .before .before .before .before .before .before .before .before .before .before in let h = found (k .before .before .slot-for .ensures) (k .if1 .left) in let z = looked-up _ _ _ _ _ (k .before .before .slot-for .ensures) (k .if1 .left) in let l = c .before .before .before .before .before .before in let a = l .before .before .along .ensures in let i = a .capability (l .if2 .left) in let j = a .refusal in let y = l .if2 .left in is-done _ _ _ (goes-on _ _ _ _ (cc) (search checks)) (cc) (search checks)
+returns-4 c =
+    let l = c .before .before .before .before .before .before in
+    let k = l .before .before .before .before in
+    let h = k .before .before .slot-for .ensures .capability (k .if1 .left) in
+    let i = l .before .before .along .ensures .capability (l .if2 .left) in
+    let z = carried (k .before .before .slot-for .ensures) (k .if1 .left) (l .before .before .along .ensures) in
+    is-done _ _ _ (goes-on _ _ _ _ (sym (l .if2 .left) ∙ z) (search checks))
+    (rw (← h, ← i, ← (c .before .written .ensures)) (c .done .ensures .0))
+    (omega arith)
 
 pub send-spec : {M : Type 1} → statement M
 send-spec =

@@ -1,9 +1,12 @@
 -- `decide::mail::take` meets its contract. Assumes nothing.
-use borrow.Author.Needs.{needs}
 use Rattle.rules.specs.Turn.{moves}
-use Rattle.decide.proofs.Checks.{checks, stands, refuses, goes-on, found, looked-up, never, is-done, is-refused, full-low}
+use Rattle.decide.proofs.Checks.{checks}
+use borrow.Author.Needs.{needs}
 use Rattle.decide.proofs.mail.take.Statement.{statement}
 use Rattle.decide.proofs.mail.take.Tie as tie
+
+taking-requires : tie.Need-taking-requires
+taking-requires c κs = search needs
 
 returns : tie.Need-returns
 unfolding moves
@@ -14,6 +17,9 @@ add-see c = search needs
 
 see-requires : tie.Need-see-requires
 see-requires c κs = search needs
+
+taking-requires-2 : tie.Need-taking-requires-2
+taking-requires-2 c κs = search needs
 
 returns-2 : tie.Need-returns-2
 unfolding moves
@@ -28,6 +34,9 @@ add-see-2 c = search needs
 see-requires-2 : tie.Need-see-requires-2
 see-requires-2 c κs = search needs
 
+taking-requires-3 : tie.Need-taking-requires-3
+taking-requires-3 c κs = search needs
+
 returns-3 : tie.Need-returns-3
 unfolding moves
 returns-3 c = search checks
@@ -38,6 +47,9 @@ mul-t12 c = search needs
 add-t10 : tie.Need-add-t10
 add-t10 c = search needs
 
+taking-requires-4 : tie.Need-taking-requires-4
+taking-requires-4 c κs = search needs
+
 returns-4 : tie.Need-returns-4
 unfolding moves
 returns-4 c = search checks
@@ -46,14 +58,18 @@ pub take-spec : {M : Type 1} → statement M
 take-spec =
     tie.close
     (tie.spec
+    taking-requires
     returns
     add-see
     see-requires
+    taking-requires-2
     returns-2
     mul-see
     add-see-2
     see-requires-2
+    taking-requires-3
     returns-3
     mul-t12
     add-t10
+    taking-requires-4
     returns-4)

@@ -1,4 +1,5 @@
 -- `decide::plain::delete` meets its contract. Assumes nothing.
+use native.Mathlib.Omega.{arith}
 use borrow.Author.Needs.{needs}
 use Rattle.rules.specs.Turn.{delete}
 use Rattle.decide.proofs.Checks.{checks, is-done, is-refused}
@@ -13,7 +14,7 @@ refused-requires c κs = search needs
 
 returns : tie.Need-returns
 unfolding delete
-returns c = is-refused _ _ _ (c .refused .ensures) (search checks) (search checks) (search checks)
+returns c = is-refused _ _ _ (c .refused .ensures) (search checks) (search checks) (omega arith)
 
 mul-t6 : tie.Need-mul-t6
 mul-t6 c = search needs
@@ -26,7 +27,7 @@ done-requires c κs = search needs
 
 returns-2 : tie.Need-returns-2
 unfolding delete
-returns-2 c = is-done _ _ _ (search checks) (c .done .ensures .0) (search checks)
+returns-2 c = is-done _ _ _ (search checks) (c .done .ensures .0) (omega arith)
 
 pub delete-spec : {M : Type 1} → statement M
 delete-spec =

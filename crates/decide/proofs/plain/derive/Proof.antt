@@ -1,4 +1,5 @@
 -- `decide::plain::derive` meets its contract. Assumes nothing.
+use native.Mathlib.Omega.{arith}
 use borrow.Author.Needs.{needs}
 use Rattle.rules.specs.Turn.{derive}
 use mathlib.Core.Path.{refl}
@@ -14,14 +15,14 @@ refused-requires c κs = search needs
 
 returns : tie.Need-returns
 unfolding derive
-returns c = is-refused _ _ _ (c .refused .ensures) (search checks) (search checks) (search checks)
+returns c = is-refused _ _ _ (c .refused .ensures) (search checks) (search checks) (omega arith)
 
 refused-requires-2 : tie.Need-refused-requires-2
 refused-requires-2 c κs = search needs
 
 returns-2 : tie.Need-returns-2
 unfolding derive
-returns-2 c = is-refused _ _ _ (c .refused2 .ensures) refl (search checks) (search checks)
+returns-2 c = is-refused _ _ _ (c .refused2 .ensures) refl (search checks) (omega arith)
 
 mul-see : tie.Need-mul-see
 mul-see c = search needs
@@ -37,14 +38,14 @@ refused-requires-3 c κs = search needs
 
 returns-3 : tie.Need-returns-3
 unfolding derive
-returns-3 c = is-refused _ _ _ (c .refused3 .ensures) refl (search checks) (search checks)
+returns-3 c = is-refused _ _ _ (c .refused3 .ensures) refl (search checks) (omega arith)
 
 refused-requires-4 : tie.Need-refused-requires-4
 refused-requires-4 c κs = search needs
 
 returns-4 : tie.Need-returns-4
 unfolding derive
-returns-4 c = is-refused _ _ _ (c .refused4 .ensures) refl (search checks) (search checks)
+returns-4 c = is-refused _ _ _ (c .refused4 .ensures) refl (search checks) (omega arith)
 
 mul-t11 : tie.Need-mul-t11
 mul-t11 c = search needs
@@ -66,7 +67,10 @@ done-requires c κs = search needs
 
 returns-5 : tie.Need-returns-5
 unfolding derive
-returns-5 c = let k = c .before .before .before .before .before .before .before in let h = k .before .before .any-slot .ensures .capability (k .if1 .left) in is-done _ _ _ (search checks) (cc) (search checks)
+returns-5 c =
+    let k = c .before .before .before .before .before .before .before in
+    let h = k .before .before .any-slot .ensures .capability (k .if1 .left) in
+    is-done _ _ _ (search checks) (rw (← h, ← (c .before .derived .ensures)) (c .done .ensures .0)) (omega arith)
 
 pub derive-spec : {M : Type 1} → statement M
 derive-spec =

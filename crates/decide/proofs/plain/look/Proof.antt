@@ -1,4 +1,5 @@
 -- `decide::plain::look` meets its contract. Assumes nothing.
+use native.Mathlib.Omega.{arith}
 use borrow.Author.Needs.{needs}
 use Rattle.rules.specs.Turn.{look}
 use Rattle.decide.proofs.Checks.{checks, is-done, is-refused}
@@ -13,11 +14,14 @@ refused-requires c κs = search needs
 
 returns : tie.Need-returns
 unfolding look
-returns c = is-refused _ _ _ (c .refused .ensures) (search checks) (search checks) (search checks)
+returns c = is-refused _ _ _ (c .refused .ensures) (search checks) (search checks) (omega arith)
 
 returns-2 : tie.Need-returns-2
 unfolding look
-returns-2 c = let k = c .before in let h = k .before .before .any-slot .ensures .capability (k .if1 .left) in is-done _ _ _ (search checks) (cc) (search checks)
+returns-2 c =
+    let k = c .before in
+    let h = k .before .before .any-slot .ensures .capability (k .if1 .left) in
+    is-done _ _ _ (search checks) (rw (← h)) (omega arith)
 
 pub look-spec : {M : Type 1} → statement M
 look-spec = tie.close (tie.spec any-slot-requires refused-requires returns returns-2)

@@ -1,4 +1,5 @@
 -- `decide::plain::ring` meets its contract. Assumes nothing.
+use native.Mathlib.Omega.{arith}
 use borrow.Author.Needs.{needs}
 use Rattle.rules.specs.Turn.{ring}
 use Rattle.decide.proofs.Checks.{checks, is-done, is-refused}
@@ -13,14 +14,17 @@ refused-requires c κs = search needs
 
 returns : tie.Need-returns
 unfolding ring
-returns c = is-refused _ _ _ (c .refused .ensures) (search checks) (search checks) (search checks)
+returns c = is-refused _ _ _ (c .refused .ensures) (search checks) (search checks) (omega arith)
 
 done-requires : tie.Need-done-requires
 done-requires c κs = search needs
 
 returns-2 : tie.Need-returns-2
 unfolding ring
-returns-2 c = let k = c .before in let h = k .before .before .slot-for .ensures .capability (k .if1 .left) in is-done _ _ _ (search checks) (cc) (search checks)
+returns-2 c =
+    let k = c .before in
+    let h = k .before .before .slot-for .ensures .capability (k .if1 .left) in
+    is-done _ _ _ (search checks) (rw (← h) (c .done .ensures .0)) (omega arith)
 
 pub ring-spec : {M : Type 1} → statement M
 ring-spec = tie.close (tie.spec slot-for-requires refused-requires returns done-requires returns-2)

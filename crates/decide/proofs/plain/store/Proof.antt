@@ -1,43 +1,31 @@
 -- `decide::plain::store` meets its contract. Assumes nothing.
-use mathlib.Core.Path.{refl}
-use borrow.Author.Needs.{needs}
+use native.Mathlib.Omega.{arith}
 use Rattle.rules.specs.Turn.{store}
-use Rattle.decide.proofs.Checks.{checks, is-done, is-refused}
+use Rattle.decide.proofs.Checks.{checks, is-refused, is-done}
+use borrow.Author.Needs.{needs}
 use Rattle.decide.proofs.plain.store.Statement.{statement}
 use Rattle.decide.proofs.plain.store.Tie as tie
 
-slot-for-requires : tie.Need-slot-for-requires
-slot-for-requires c κs = search needs
+word-for-requires : tie.Need-word-for-requires
+word-for-requires c κs = search needs
 
 refused-requires : tie.Need-refused-requires
 refused-requires c κs = search needs
 
 returns : tie.Need-returns
 unfolding store
-returns c = is-refused _ _ _ (c .refused .ensures) (search checks) (search checks) (search checks)
-
-refused-requires-2 : tie.Need-refused-requires-2
-refused-requires-2 c κs = search needs
-
-returns-2 : tie.Need-returns-2
-unfolding store
-returns-2 c = is-refused _ _ _ (c .refused2 .ensures) refl (search checks) (search checks)
+returns c = is-refused _ _ _ (c .refused .ensures) (search checks) (search checks) (omega arith)
 
 done-requires : tie.Need-done-requires
 done-requires c κs = search needs
 
-returns-3 : tie.Need-returns-3
+returns-2 : tie.Need-returns-2
 unfolding store
-returns-3 c = let k = c .before .before in let h = k .before .before .slot-for .ensures .capability (k .if1 .left) in is-done _ _ _ (search checks) (cc) (search checks)
+returns-2 c =
+    let k = c .before in
+    let h = k .before .before .word-for .ensures .capability (k .if1 .left) in
+    is-done _ _ _ (search checks) (rw (← h) (c .done .ensures .0)) (omega arith)
 
 pub store-spec : {M : Type 1} → statement M
 store-spec =
-    tie.close
-    (tie.spec
-    slot-for-requires
-    refused-requires
-    returns
-    refused-requires-2
-    returns-2
-    done-requires
-    returns-3)
+    tie.close (tie.spec word-for-requires refused-requires returns done-requires returns-2)
