@@ -2,7 +2,7 @@
 # Tests of the code as a text: only layout indexes the memory, so that no visit to a place is left out, and no public entry asks anything.
 set -u
 cd "$(dirname "$0")/.." || exit 2
-. tests/lib.sh
+. tests/cases.bash
 
 only_layout_indexes() { ! grep -nE 'mem\[' crates/*/src/*.rt | grep -v '^crates/layout/'; }
 places_by_count() { ! grep -nE 'mem\[(KIND|RIGHTS|OBJECT|BADGE|SOURCE)' crates/layout/src/lib.rt | awk -F: '{ print $1 }' | while read -r line; do

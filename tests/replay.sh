@@ -2,7 +2,7 @@
 # Replays every trace of the vectors, and compares byte by byte with the answers of the independent model.
 set -u
 cd "$(dirname "$0")/.." || exit 2
-. tests/lib.sh
+. tests/cases.bash
 out=$(mktemp) || exit 2
 trap 'rm -f "$out"' EXIT
 

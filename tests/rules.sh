@@ -3,7 +3,7 @@
 set -u
 cd "$(dirname "$0")/.." || exit 2
 specs=crates/rules/specs
-. tests/lib.sh
+. tests/cases.bash
 
 # The definitions that the theorems speak of, without the worked example and the statements themselves.
 believed() { (cd "$specs" && cat Sizes.antt State.antt Turn.antt Image.antt Flow.antt); }
