@@ -1,15 +1,15 @@
 -- The memory of a state at boot before its capabilities: cleared, with the head and the table of turns. Assumes nothing.
-use mathlib.Core.Path.{_≡_, refl, sym, ap, _∙_, subst, fun-ext}
+use mathlib.Core.Path.{_≡_, refl, sym, ap, _∙_, fun-ext}
 use mathlib.Core.Bool.{Bool, true, false, cond, _&&_}
 use mathlib.Core.List.{List}
-use mathlib.Core.Logic.{_⊎_, inl, inr, ⊎-elim}
-use Prim.Native.Nat.{ℕ, zero, suc, _+_, _-_, _*_, _^_, _≤_, _<_}
+use mathlib.Core.Logic.{⊎-elim}
+use Prim.Native.Nat.{ℕ, zero, _+_, _*_, _≤_, _<_}
 use native.Mathlib.Omega.{arith}
-use lib.Dec.{eqb, ltb}
+use lib.Dec.{ltb}
 use lib.ListN.{length, getD, set, length-set}
 use lib.Seq.{getD-set-same, getD-set-other, ext-getD}
 use borrow.Author.Tests.{ltb-true}
-use Rattle.rules.specs.Sizes.{turnsMost, places, mailboxes, bells, frameWords}
+use Rattle.rules.specs.Sizes.{turnsMost, frameWords}
 use Rattle.layout.specs.Layout.{size, base, cells, listed, ofCells, stateOf, framesAt, wordsFor}
 use Rattle.layout.specs.Stored.{Cleared, headed, turning}
 use Rattle.boot.specs.Booted.{bare, Fresh}

@@ -1,32 +1,32 @@
 -- Loading, put together: from cleared memory by the head, the turns and the entries to the state that the image describes; what the code
 -- needs on the way; memory is good at boot. Assumes nothing.
 use mathlib.Core.Path.{_≡_, refl, sym, ap, _∙_, subst}
-use mathlib.Core.List.{List, [], _∷_, _++_, List·Memᴰ, List·Memᴰ·head, List·Memᴰ·tail, Memᴰ·append-right}
+use mathlib.Core.List.{List, [], _∷_, _++_, List·Memᴰ, List·Memᴰ·head, Memᴰ·append-right}
 use mathlib.Core.Bool.{Bool, true, false, cond, _&&_}
-use Prim.Native.Nat.{ℕ, zero, suc, _+_, _-_, _*_, _/_, _≤_, _<_, min}
+use Prim.Native.Nat.{ℕ, zero, suc, _+_, _-_, _*_, _/_, _≤_, _<_}
 use native.Mathlib.Omega.{arith}
 use lib.Dec.{eqb, ltb}
-use lib.ListN.{length, getD, take, drop, set as store, length-set, length-take, length-drop}
+use lib.ListN.{length, getD, drop, set as store, length-set, length-take, length-drop}
 use lib.Seq.{getD-set-other, getD-take, getD-drop}
 use borrow.Author.Tests.{ltb-true, eqb-true}
-use Rattle.rules.specs.Sizes.{domainsMost, slots, turnsMost, places}
+use Rattle.rules.specs.Sizes.{turnsMost, places}
 use Rattle.rules.specs.State.{State, Places, slot, Section4, Formed}
 use Rattle.rules.specs.Turn.{set, withPlaces}
-use Rattle.rules.specs.Image.{Bytes, Entry, byte, headerBytes, entryBytes, sizeD, sizeT, sizeC, sizeF, padded, entriesAt, lengthFor, tableOf, entryAt, entriesFrom, imageOf, placeOf, noDomain, sourceless, sourceOf, capabilityOf, given, boot, rising, all, formRefusal, refusalOf, accepted, readAs, read as readImage}
+use Rattle.rules.specs.Image.{Bytes, Entry, byte, headerBytes, entryBytes, sizeD, sizeT, sizeC, sizeF, padded, entriesAt, lengthFor, tableOf, entryAt, entriesFrom, imageOf, placeOf, noDomain, sourceless, sourceOf, capabilityOf, given, boot, rising, all, refusalOf, accepted, readAs, read as readImage}
 use Rattle.rules.specs.Worked.{bytes as worked}
 use Rattle.rules.specs.declared.Capability.{Capability}
 use Rattle.rules.proofs.Laws.{both, passes}
 use Rattle.rules.proofs.Given.{EntryRight, FormRight, form-right}
 use Rattle.rules.proofs.Bootable.{boot-formed, boot-section4}
 use Rattle.rules.proofs.Worked.{bytes-accepted}
-use Rattle.layout.specs.Layout.{stateOf, framesAt, wordsFor, wordsOf, need, Enough}
+use Rattle.layout.specs.Layout.{stateOf, framesAt, wordsFor, wordsOf, Enough}
 use Rattle.layout.specs.Stored.{Stored, placed, Cleared, headed, turning}
 use Rattle.layout.proofs.Cells.{words-some}
 use Rattle.layout.proofs.Stores.{place-law, cleared-none, cleared-more, cleared-all}
 use Rattle.turn.specs.Turned.{Good}
 use Rattle.image.specs.declared.Fields.{Fields}
 use Rattle.image.specs.Said.{said, Fetched}
-use Rattle.boot.specs.Booted.{Loaded, Booted, bare, Fresh, Tabled, Entered}
+use Rattle.boot.specs.Booted.{Loaded, Booted, bare, Tabled, Entered}
 use Rattle.boot.proofs.Fresh.{fresh-headed, fresh-turn, fresh-state}
 use Rattle.boot.proofs.Rising.{entries-more, entries-split, rising-below, given-more}
 
@@ -182,6 +182,12 @@ source-some e h = go (eqb (e .sourceDomain) noDomain) (eqb (e .sourceSlot) 0) re
     go true true a b = absurd (h (eqb-true _ _ a) (eqb-true _ _ b))
     go true false a b = omega arith
     go false y a b = omega arith
+
+-- the capability of an entry, whose source the code found
+pub capability-some : (e : Entry) {s : ℕ} → s ≡ sourceOf e
+    → _≡_ {A = Capability} record { kind = e .kind; rights = e .rights; object = e .object; badge = e .badge; source = s } (capabilityOf e)
+unfolding capabilityOf
+capability-some e h = ap (λ x. record { kind = e .kind; rights = e .rights; object = e .object; badge = e .badge; source = x }) h
 
 -- the table of turns
 pub tabled-next : {b m o n : List ℕ} {i v : ℕ} → n ≡ turning i v o → framesAt ≤ length o → i < turnsMost → v ≡ byte b (headerBytes + i)

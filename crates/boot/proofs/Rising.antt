@@ -1,13 +1,12 @@
 -- The entries of an image, one after the other: what they give so far, and what one more adds. Assumes nothing.
 use mathlib.Core.Path.{_≡_, refl, sym, ap, _∙_, subst, fun-ext}
-use mathlib.Core.Bool.{Bool, true, false, cond, _&&_}
+use mathlib.Core.Bool.{Bool, true, false, cond}
 use mathlib.Core.List.{List, [], _∷_, _++_, List·Memᴰ, List·Memᴰ·head, List·Memᴰ·tail}
-use mathlib.Core.Logic.{_⊎_, inl, inr, ⊎-elim}
-use Prim.Native.Nat.{ℕ, zero, suc, _+_, _*_, _≤_, _<_}
+use Prim.Native.Nat.{ℕ, zero, suc, _+_, _*_, _<_}
 use native.Mathlib.Omega.{arith}
 use lib.Dec.{eqb, ltb}
-use borrow.Author.Tests.{ltb-true, eqb-true, eqb-false}
-use Rattle.rules.specs.State.{Places, nothing}
+use borrow.Author.Tests.{ltb-true, eqb-true}
+use Rattle.rules.specs.State.{nothing}
 use Rattle.rules.specs.Turn.{set}
 use Rattle.rules.specs.Image.{Entry, entryBytes, entryAt, entriesFrom, placeOf, capabilityOf, given, risingFrom, rising}
 use Rattle.rules.proofs.Laws.{both}

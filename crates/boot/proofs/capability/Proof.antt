@@ -1,5 +1,6 @@
 -- `boot::capability` meets its contract. Assumes nothing.
-use Rattle.rules.specs.Image.{capabilityOf}
+use Rattle.image.specs.Said.{said}
+use Rattle.boot.proofs.Loading.{capability-some}
 use borrow.Author.Needs.{needs}
 use Rattle.boot.proofs.capability.Statement.{statement}
 use Rattle.boot.proofs.capability.Tie as tie
@@ -8,8 +9,7 @@ source-requires : tie.Need-source-requires
 source-requires c κs = search needs
 
 returns : tie.Need-returns
-unfolding capabilityOf
-returns c = cc
+returns c = capability-some (said (c .before .args .e)) (c .source .ensures)
 
 pub capability-spec : {M : Type 1} → statement M
 capability-spec = tie.close (tie.spec source-requires returns)
