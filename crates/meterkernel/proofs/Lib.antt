@@ -1,0 +1,5 @@
+pub mod Calls
+pub mod Histories
+pub mod Running
+pub mod Matrix
+pub mod Demands
