@@ -347,11 +347,18 @@ below-bytes [] h i = omega arith
 below-bytes (x ∷ xs) h zero = ltb-true _ _ (both (ltb x 256) _ h .0)
 below-bytes (x ∷ xs) h (suc i) = below-bytes xs (both (ltb x 256) _ h .1) i
 
--- the worked example of document 01, section 6, in any memory of at least 5,956 + 256 * 16 words: that memory is good
-pub worked-good : (m n : List ℕ) → wordsFor 16 ≤ length m → Loaded worked m n → Good n
+-- the worked example of document 01, section 6: bytes, and accepted
+pub worked-bytes : Bytes worked
 unfolding all
-worked-good m n = boot-good worked m n (below-bytes worked refl) (unrefused worked bytes-accepted)
+worked-bytes = below-bytes worked refl
+
+pub worked-right : refusalOf worked ≡ 0
+worked-right = unrefused worked bytes-accepted
+
+-- in any memory of at least 5,956 + 256 * 16 words: that memory is good
+pub worked-good : (m n : List ℕ) → wordsFor 16 ≤ length m → Loaded worked m n → Good n
+worked-good m n = boot-good worked m n worked-bytes worked-right
 
 -- and there is some
 pub worked-some : (m : List ℕ) → wordsFor 16 ≤ length m → (n : List ℕ) × Loaded worked m n × Good n
-worked-some m l = let (n, d) = loadable (right worked (unrefused worked bytes-accepted)) l in (n, d, worked-good m n l d)
+worked-some m l = let (n, d) = loadable (right worked worked-right) l in (n, d, worked-good m n l d)

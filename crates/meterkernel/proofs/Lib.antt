@@ -3,3 +3,4 @@ pub mod Histories
 pub mod Running
 pub mod Matrix
 pub mod Demands
+pub mod Example
