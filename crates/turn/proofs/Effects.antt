@@ -5,8 +5,7 @@ use mathlib.Core.Bool.{Bool, true, false, cond}
 use mathlib.Core.List.{List}
 use Prim.Native.Nat.{ℕ, zero, suc, _+_, _-_, _*_, _≤_, _<_}
 use native.Mathlib.Omega.{arith}
-use lib.Dec.{eqb, ltb}
-use borrow.Author.Tests.{lt-ltb, le-ltb}
+use lib.Dec.{eqb}
 use lib.Bits.{bitOr}
 use Rattle.rules.specs.Sizes.{domainsMost, slots, allSlots, places, mailboxes, bells, frameWords}
 use Rattle.rules.specs.State.{State, FRAME, MAILBOX, BELL, slot, nothing, noMessage, whose, objects, Section4, Formed}
@@ -25,7 +24,7 @@ use Rattle.rules.proofs.Always.{Sound}
 use Rattle.tree.specs.Tree.{placesOf, dropping, pruning, dropVisits, pruneVisits}
 use Rattle.tree.specs.Sweeps.{PruneVisits}
 use Rattle.turn.specs.Turned.{Named, Fitting, Applied}
-use Rattle.turn.specs.Visits.{roomVisits, Visited, cost, allowed}
+use Rattle.turn.specs.Visits.{Visited, cost, allowed}
 
 -- the places that a licensed effect names are slots of its domain
 pub licensed-named : {s : State} {d : ℕ} {e : Effect} → d < domainsMost → Licence s d e → Named e
@@ -97,25 +96,17 @@ module _ (s : State) (d : ℕ) where
 
 -- ---- what the code of each effect did
 
-room-none : (b n : ℕ) → mailboxes ≤ b → roomVisits b n ≡ 0
-unfolding roomVisits
-room-none b n h = rw (le-ltb b mailboxes h)
-
-room-there : (b n : ℕ) → b < mailboxes → roomVisits b n ≡ n
-unfolding roomVisits
-room-there b n h = rw (lt-ltb b mailboxes h)
-
 -- an object that there is not: nothing is stored
 pub applied-none : {m : List ℕ} {before b : ℕ} {g : Message} {c : Capability} → mailboxes ≤ b → Applied m (Post b g c) m before before
-applied-none {b = b} h = record { stored = stored-nothing (λ o. omega arith); within = omega arith; counted = let z = room-none b 1 h in omega arith; still = absurd }
+applied-none h = record { stored = stored-nothing (λ o. omega arith); within = omega arith; counted = λ o. absurd (omega arith); still = absurd }
 
 pub applied-no-move : {m : List ℕ} {before b p : ℕ} → mailboxes ≤ b → Applied m (Move b p) m before before
-applied-no-move {b = b} h = record { stored = stored-nothing (λ o. omega arith); within = omega arith; counted = let z = room-none b 3 h in omega arith; still = absurd }
+applied-no-move h = record { stored = stored-nothing (λ o. omega arith); within = omega arith; counted = λ o. absurd (omega arith); still = absurd }
 
 module _ {m n : List ℕ} {before : ℕ} where
   pub applied-store : {f w v : ℕ} → Stored ((f < stateOf m .frames) × (w < frameWords)) (worded f w v) m n → Applied m (Store f w v) n before before
   unfolding worded apply
-  applied-store s = record { stored = s; within = omega arith; counted = refl; still = absurd }
+  applied-store s = record { stored = s; within = omega arith; counted = λ o. omega arith; still = absurd }
 
   pub applied-ring : {b v badge : ℕ} → v ≡ bitOr (stateOf m .bell b) badge → Stored (b < bells) (belled b v) m n → Applied m (Ring b badge) n before before
   unfolding belled apply
@@ -123,27 +114,27 @@ module _ {m n : List ℕ} {before : ℕ} where
       record {
         stored = record { long = s .long; frames = s .frames; behind = s .behind; exact = λ o. s .exact o ∙ ap (λ x. belled b x (stateOf m)) e };
         within = omega arith;
-        counted = refl;
+        counted = λ o. omega arith;
         still = absurd;
       }
 
   pub applied-hush : {b : ℕ} → Stored (b < bells) (belled b 0) m n → Applied m (Hush b) n before before
   unfolding belled apply
-  applied-hush s = record { stored = s; within = omega arith; counted = refl; still = absurd }
+  applied-hush s = record { stored = s; within = omega arith; counted = λ o. omega arith; still = absurd }
 
   pub applied-put : {p r : ℕ} {c : Capability} → Stored (p < places) (placed p c) m n → r ≡ before + 1 → Applied m (Put p c) n before r
   unfolding placed apply
-  applied-put s e = record { stored = s; within = omega arith; counted = e; still = absurd }
+  applied-put s e = record { stored = s; within = omega arith; counted = λ o. e; still = absurd }
 
   pub applied-post : {o : List ℕ} {b r : ℕ} {g : Message} {c : Capability} → b < mailboxes → Stored (allSlots + b < places) (placed (allSlots + b) c) m o
       → Stored (b < mailboxes) (mailed b g) o n → r ≡ before + 1 → Applied m (Post b g c) n before r
   unfolding placed mailed apply
-  applied-post {b = b} h s t e =
+  applied-post h s t e =
       let u = stored-then s t in
       record {
         stored = record { long = u .long; frames = u .frames; behind = u .behind; exact = λ k. u .exact (omega arith, k) };
         within = omega arith;
-        counted = let z = room-there b 1 h in omega arith;
+        counted = λ o. e;
         still = absurd;
       }
 
@@ -157,24 +148,22 @@ module _ {m n : List ℕ} {before : ℕ} where
   applied-move {b = b} {p} h l e g a s f =
       let u = stored-then (a .stored) s in
       let w = a .within in
-      let one = room-there b 1 h in
-      let three = room-there b 3 h in
-      let taken = a .counted in
+      let taken = a .counted h in
       record {
         stored = record { long = u .long; frames = u .frames; behind = u .behind; exact = λ k. u .exact (k, l) ∙ ap (λ x. placed p x (apply (stateOf m) (Take b))) e };
         within = omega arith;
-        counted = omega arith;
+        counted = λ o. omega arith;
         still = absurd;
       }
 
 -- nothing, and the sweeps
 pub applied-nothing : {m : List ℕ} {before : ℕ} → Applied m Nothing m before before
 unfolding apply
-applied-nothing = record { stored = record { long = refl; frames = refl; behind = λ k h. refl; exact = λ o. refl }; within = omega arith; counted = refl; still = λ i. refl }
+applied-nothing = record { stored = record { long = refl; frames = refl; behind = λ k h. refl; exact = λ o. refl }; within = omega arith; counted = λ o. omega arith; still = λ i. refl }
 
 pub applied-drop : {m n : List ℕ} {before p r : ℕ} → r ≡ before + dropVisits → Stored (p < places) (dropping p) m n → Applied m (Drop p) n before r
 unfolding dropping apply
-applied-drop e s = record { stored = s; within = omega arith; counted = e; still = absurd }
+applied-drop e s = record { stored = s; within = omega arith; counted = λ o. e; still = absurd }
 
 pub applied-prune : {m n : List ℕ} {before p r : ℕ} → r ≤ before + pruneVisits → Stored (Sound (stateOf m)) (pruning p) m n → PruneVisits (placesOf m) p before r → Applied m (Prune p) n before r
 unfolding pruning apply
@@ -182,7 +171,7 @@ applied-prune e s v =
     record {
       stored = record { long = s .long; frames = s .frames; behind = s .behind; exact = λ o. s .exact (record { formed = o .0; section4 = o .1 }) };
       within = omega arith;
-      counted = v;
+      counted = λ o. v;
       still = absurd;
     }
 

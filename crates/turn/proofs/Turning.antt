@@ -25,7 +25,7 @@ use Rattle.rules.proofs.Reached.{sound-next}
 use Rattle.layout.specs.Layout.{stateOf, positionAt, need, Enough}
 use Rattle.layout.specs.Stored.{Stored, Placed, Elsewhere}
 use Rattle.turn.specs.Turned.{Turned, Good, Exact, Named, Fitting, Idle, Applied, Whose}
-use Rattle.turn.specs.Visits.{visitsFor, Visited, Counted, cost, allowed}
+use Rattle.turn.specs.Visits.{visitsFor, Visited, cost, allowed}
 use Rattle.decide.specs.Visits.{looks, looksMost}
 use Rattle.decide.proofs.Visits.{looks-most}
 use Rattle.turn.proofs.Effects.{licensed-named, licensed-fitting, most, cheap}
@@ -126,7 +126,6 @@ turned-short {m} {o} f e =
       behind = λ k l. refl;
       within = omega arith;
       short = λ l. (refl, refl, refl);
-      counted = λ l. absurd (omega arith);
       refused = λ n k l. refl;
       exact = λ g. absurd (let l = g .enough in omega arith);
     }
@@ -134,7 +133,7 @@ turned-short {m} {o} f e =
 module _ (o : Operation) {m n₁ n : List ℕ} {x : Decision} {w k v : ℕ} (enough : Enough m) (who : w ≡ whose (stateOf m))
     (e : x ≡ decide (stateOf m) (w % 16) o) (looked : k ≡ looks (stateOf m) (w % 16) (named (o .number)) o) (a : Applied m (x .effect) n₁ k v)
     (moved : Stored (Placed (stateOf n₁)) advance n₁ n) (apart : Elsewhere positionAt n₁ n) where
-  exactly : Good m → Exact m o n (x .answer)
+  exactly : Good m → Exact m o n (x .answer) v
   unfolding next answer
   exactly g =
       let d : w % 16 ≡ whose (stateOf m) = (let l = whose-low (g .formed) in let h = g .formed .domains .1 in mod-eq-of-lt (omega arith) ∙ who) in
@@ -152,18 +151,15 @@ module _ (o : Operation) {m n₁ n : List ℕ} {x : Decision} {w k v : ℕ} (eno
       record {
         state = two;
         answered = ap (λ z. z .answer) y;
+        counted =
+            subst (λ z. Visited (stateOf m) (z .effect) (looks (stateOf m) (whose (stateOf m)) (named (o .number)) o) v) y
+            (subst (λ z. Visited (stateOf m) f z v) (looked ∙ ap (λ z. looks (stateOf m) z (named (o .number)) o) d) (a .counted fit));
         good = record {
           enough = let p = a .stored .frames in let q = moved .frames in let r = a .stored .long in let t = moved .long in let u = g .enough in omega arith;
           formed = subst (λ s. Formed s) (sym two) (again .formed);
           section4 = subst (λ s. Section4 (s .capability)) (sym two) (again .section4);
         };
       }
-
-  visited : Counted (stateOf m) o v
-  visited =
-      subst (λ z. Visited (stateOf m) (decide (stateOf m) (z % 16) o .effect) (looks (stateOf m) (z % 16) (named (o .number)) o) v) who
-      (subst (λ z. Visited (stateOf m) (z .effect) (looks (stateOf m) (w % 16) (named (o .number)) o) v) e
-      (subst (λ z. Visited (stateOf m) (x .effect) z v) looked (a .counted)))
 
   pub turned-done : Turned m o n (x .answer) v
   turned-done =
@@ -172,7 +168,6 @@ module _ (o : Operation) {m n₁ n : List ℕ} {x : Decision} {w k v : ℕ} (eno
         behind = λ j h. moved .behind j (let p = a .stored .frames in omega arith) ∙ a .stored .behind j h;
         within = let p = a .within in let q = effect-cost (stateOf m) (w % 16) o e in let r = limit (named (o .number)) in let l = looks-most (stateOf m) (w % 16) (named (o .number)) o in omega arith;
         short = λ l. absurd (let h = enough in omega arith);
-        counted = λ l. visited;
         refused = λ h j l. apart j l ∙ ap (λ y. getD y j 0) (a .still (effect-idle (stateOf m) (w % 16) o e h));
         exact = exactly;
       }

@@ -20,11 +20,12 @@ pub record Good (m : List ℕ) : Type 0 where
   pub formed : Formed (stateOf m)
   pub section4 : Section4 (stateOf m .capability)
 
--- the turn does what document 01 says: the next state, and the answer
-pub record Exact (m : List ℕ) (o : Operation) (n : List ℕ) (a : Answer) : Type 0 where
+-- the turn does what document 01 says: the next state, and the answer; and its visits are exactly those that it needs
+pub record Exact (m : List ℕ) (o : Operation) (n : List ℕ) (a : Answer) (visits : ℕ) : Type 0 where
   pub state : stateOf n ≡ next (stateOf m) o
   pub answered : a ≡ answer (stateOf m) o
   pub good : Good n
+  pub counted : Counted (stateOf m) o visits
 
 -- one turn on memory m, which becomes n, with answer a and so many visits
 pub record Turned (m : List ℕ) (o : Operation) (n : List ℕ) (a : Answer) (visits : ℕ) : Type 0 where
@@ -32,13 +33,12 @@ pub record Turned (m : List ℕ) (o : Operation) (n : List ℕ) (a : Answer) (vi
   pub long : length n ≡ length m
   pub behind : (k : ℕ) → need m ≤ k → getD n k 0 ≡ getD m k 0
   pub within : visits ≤ visitsFor (named (o .number))
-  -- memory too short for the state that it claims to hold: 29, and nothing changed or visited; else the visits are exactly those that are counted
+  -- memory too short for the state that it claims to hold: 29, and nothing changed or visited
   pub short : length m < need m → (n ≡ m) × (a ≡ refusal 29) × (visits ≡ 0)
-  pub counted : Enough m → Counted (stateOf m) o visits
   -- a refusal leaves every word but the position's as it was
   pub refused : (a .status ≡ 0 → ⊥) → Elsewhere positionAt m n
   -- good memory: what the rules say, and good memory again
-  pub exact : Good m → Exact m o n a
+  pub exact : Good m → Exact m o n a visits
 
 -- the domain whose turn is next; memory too short for a state: 29, which is no domain
 pub record Whose (m : List ℕ) (d : ℕ) : Type 0 where
@@ -90,5 +90,5 @@ Idle (Move m p) = ⊥
 pub record Applied (m : List ℕ) (e : Effect) (n : List ℕ) (before visits : ℕ) : Type 0 where
   pub stored : Stored (Fitting (stateOf m) e) (λ s. apply s e) m n
   pub within : visits ≤ before + cost e
-  pub counted : Visited (stateOf m) e before visits
+  pub counted : Fitting (stateOf m) e → Visited (stateOf m) e before visits
   pub still : Idle e → n ≡ m
