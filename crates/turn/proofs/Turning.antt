@@ -97,9 +97,9 @@ module _ (s : State) (d : ℕ) (o : Operation) {x : Decision} (e : x ≡ decide 
   pub apply-named : d < domainsMost → Named (x .effect)
   apply-named h = subst (λ y. Named (y .effect)) (sym e) (licensed-named h (licensed s d o))
 
-  pub apply-allowed : {k : ℕ} → k ≡ looks s d (named (o .number)) o → k ≤ allowed (x .effect)
+  pub apply-allowed : {j k : ℕ} → k ≡ looks s d (named (o .number)) o → j ≤ k → j ≤ allowed (x .effect)
   unfolding decide
-  apply-allowed {k} h = subst (λ y. k ≤ allowed (y .effect)) (sym e) (let g = spare s d (named (o .number)) o in let l = looks-most s d (named (o .number)) o in omega arith)
+  apply-allowed {j} h i = subst (λ y. j ≤ allowed (y .effect)) (sym e) (let g = spare s d (named (o .number)) o in let l = looks-most s d (named (o .number)) o in omega arith)
 
   effect-cost : cost (x .effect) ≤ most (named (o .number))
   unfolding decide

@@ -51,7 +51,7 @@ returns-4 c =
     let z = looked-up _ _ _ _ _ (k .before .before .slot-for .ensures) (k .if1 .left) in
     is-done _ _ _ (search checks)
     (rw (← h, ← (c .before .before .before .message .ensures), ← (c .take .ensures .effect), ← (c .take .ensures .flag)))
-    (receive-taken (k .before .before .slot-for .ensures) refl (k .if1 .left) (search checks) (c .take .ensures))
+    (let v = receive-taken (k .before .before .slot-for .ensures) refl (k .if1 .left) (search checks) (c .take .ensures) in omega arith)
 
 pub receive-spec : {M : Type 1} → statement M
 receive-spec =
