@@ -8,7 +8,7 @@ use native.Mathlib.Omega.{arith}
 use lib.Dec.{eqb}
 use lib.Bits.{bitOr}
 use Rattle.rules.specs.Sizes.{domainsMost, slots, allSlots, places, mailboxes, bells, frameWords}
-use Rattle.rules.specs.State.{State, FRAME, MAILBOX, BELL, slot, nothing, noMessage, whose, objects, Section4, Formed}
+use Rattle.rules.specs.State.{State, FRAME, MAILBOX, BELL, slot, nothing, noMessage, whose, objects, Section4, Formed, Sound}
 use Rattle.rules.specs.Turn.{held, words, conclude, load, store, derived, derive, delete, revoke, ring, hear, copied, goes, send, moves, receive, look, Name, IDLE, LOAD, STORE, DERIVE, DELETE, REVOKE, RING, HEAR, SEND, RECEIVE, LOOK, unknown, named, decided, decide, apply}
 use Rattle.rules.specs.declared.Capability.{Capability}
 use Rattle.rules.specs.declared.Message.{Message}
@@ -20,7 +20,6 @@ use Rattle.rules.proofs.Licence.{Owns, Licence, nothing-done, stores, rings, hu
 use Rattle.layout.specs.Layout.{stateOf}
 use Rattle.layout.specs.Stored.{Stored, placed, worded, belled, mailed}
 use Rattle.layout.proofs.Stores.{stored-nothing, stored-then}
-use Rattle.rules.proofs.Always.{Sound}
 use Rattle.tree.specs.Tree.{placesOf, dropping, pruning, dropVisits, pruneVisits}
 use Rattle.tree.specs.Sweeps.{PruneVisits}
 use Rattle.turn.specs.Turned.{Named, Fitting, Applied}

@@ -19,7 +19,6 @@ use Rattle.rules.specs.declared.Decision.{Decision}
 use Rattle.rules.proofs.Laws.{concluded, concluded-both}
 use Rattle.rules.proofs.Fixed.{apply-fixed}
 use Rattle.rules.proofs.Licence.{Licence, licensed}
-use Rattle.rules.proofs.Always.{Sound}
 use Rattle.rules.proofs.Formed.{whose-low}
 use Rattle.rules.proofs.Reached.{sound-next}
 use Rattle.layout.specs.Layout.{stateOf, positionAt, need, Enough}
