@@ -9,6 +9,7 @@ places_by_count() { ! grep -nE 'mem\[(KIND|RIGHTS|OBJECT|BADGE|SOURCE)' crates/l
   # the function that the line stands in names visits
   sed -n "1,${line}p" crates/layout/src/lib.rt | grep -E '^(pub )?fn ' | tail -n 1 | grep -q 'visits: u32' || echo "$line"
 done | grep -q .; }
+none_dropped() { ! grep -nE '^ *(layout::)?(see|place|source_of|hand_over)\(.*\);' crates/{decide,tree,turn}/src/*.rt; }
 no_requires() { # FILE FUNCTION: a public entry has no requires
   ! sed -n "/^pub fn $2(/,/^{/p" "$1" | grep -q requires
 }
@@ -20,6 +21,7 @@ state_is_small() { # beside the frames at most 6,500 words
 
 check "only layout indexes the memory" only_layout_indexes
 check "what a place holds is read and written by functions that count the visit" places_by_count
+check "no count of a visit is dropped in a turn" none_dropped
 check "beside the frames a state takes at most 6,500 words" state_is_small
 check "turn asks nothing" no_requires crates/turn/src/lib.rt turn
 check "whose asks nothing" no_requires crates/turn/src/lib.rt whose

@@ -20,7 +20,8 @@ use Rattle.rules.specs.declared.Operation.{Operation}
 use Rattle.rules.specs.declared.Answer.{Answer}
 use Rattle.rules.specs.declared.Effect.{Effect}
 use Rattle.layout.specs.Layout.{size, cells, ofCells, stateOf}
-use Rattle.decide.specs.Decides.{looks, Decides, Looks, Carries, checksAlong, refusedBy}
+use Rattle.decide.specs.Decides.{Decides, Looks, Carries, checksAlong, refusedBy}
+use Rattle.decide.specs.Visits.{looks}
 use Rattle.decide.specs.declared.Decided.{Decided}
 use Rattle.decide.specs.declared.look.Looked.{Looked}
 
@@ -58,13 +59,13 @@ never k h e = absurd (eqb-false k 0 h e)
 
 -- ---- the end of an operation: refused, or done
 
-module _ {r : Decided} {most : ℕ} (e : ℕ) (f : Effect) (a : Answer) where
-  pub is-refused : {k v : ℕ} → (r .decision ≡ refusedBy k) × (r .visits ≡ v) → eqb k 0 ≡ false → k ≡ e → v ≤ most → Decides r (conclude e f a) most
+module _ {r : Decided} {visits : ℕ} (e : ℕ) (f : Effect) (a : Answer) where
+  pub is-refused : {k v : ℕ} → (r .decision ≡ refusedBy k) × (r .visits ≡ v) → eqb k 0 ≡ false → k ≡ e → v ≡ visits → Decides r (conclude e f a) visits
   unfolding conclude
   is-refused {k = zero} p h q l = absurd (eqb-false 0 0 h refl)
-  is-refused {k = suc k} p h q l = record { decision = p .0 ∙ rw (← q); visits = rw (p .1) l }
+  is-refused {k = suc k} p h q l = record { decision = p .0 ∙ rw (← q); visits = p .1 ∙ l }
 
-  pub is-done : 0 ≡ e → r .decision ≡ record { effect = f; answer = a } → r .visits ≤ most → Decides r (conclude e f a) most
+  pub is-done : 0 ≡ e → r .decision ≡ record { effect = f; answer = a } → r .visits ≡ visits → Decides r (conclude e f a) visits
   unfolding conclude
   is-done q p l = record { decision = p ∙ rw (← q); visits = l }
 
@@ -159,13 +160,13 @@ past x zero h = zero-le
 past x (suc n) h = let a = past x n (h .0) in let b = h .1 in omega arith
 
 module _ {r : Decided} (s : State) (d : ℕ) (o : Operation) where
-  pub by-number : {v : ℕ} (n : ℕ) → o .number ≡ n → Decides r (decided s d (named n) o) v → v ≤ looks (named n) → Decides r (decide s d o) (looks (named (o .number)))
+  pub by-number : (n : ℕ) → o .number ≡ n → Decides r (decided s d (named n) o) (looks s d (named n) o) → Decides r (decide s d o) (looks s d (named (o .number)) o)
   unfolding decide
-  by-number n e k l = record { decision = k .decision ∙ ap (λ y. decided s d (named y) o) (sym e); visits = subst (λ y. r .visits ≤ looks (named y)) (sym e) (let h = k .visits in omega arith) }
+  by-number n e k = record { decision = k .decision ∙ ap (λ y. decided s d (named y) o) (sym e); visits = k .visits ∙ ap (λ y. looks s d (named y) o) (sym e) }
 
-  pub by-no-number : Others (o .number) 11 → (r .decision ≡ refusedBy 1) × (r .visits ≡ 0) → Decides r (decide s d o) (looks (named (o .number)))
-  unfolding decide decided named conclude
-  by-no-number h k = record { decision = rw (List·getD-eq-default _ unknown (past (o .number) 11 h)) (k .0); visits = let g = k .1 in omega arith }
+  pub by-no-number : Others (o .number) 11 → (r .decision ≡ refusedBy 1) × (r .visits ≡ 0) → Decides r (decide s d o) (looks s d (named (o .number)) o)
+  unfolding decide decided named conclude looks
+  by-no-number h k = record { decision = rw (List·getD-eq-default _ unknown (past (o .number) 11 h)) (k .0); visits = rw (List·getD-eq-default _ unknown (past (o .number) 11 h)) (k .1) }
 
 pub ruleset order = (stands, refuses, goes-on, looked-up)
 

@@ -11,7 +11,8 @@ ghost use Prim.Native.Nat.{_≤_, _<_};
 ghost use Rattle.rules.specs.Sizes.{domainsMost};
 ghost use Rattle.rules.specs.Turn.{named, decide as decideRule};
 ghost use Rattle.layout.specs.Layout.{stateOf, Enough};
-ghost use Rattle.decide.specs.Decides.{looks, Decides};
+ghost use Rattle.decide.specs.Decides.{Decides};
+ghost use Rattle.decide.specs.Visits.{looks};
 
 // A decision, and how many places were visited for it.
 pub struct Decided {
@@ -22,7 +23,7 @@ pub struct Decided {
 // What domain d's operation comes to.
 pub fn decide(mem: &[u32], d: u32, op: Operation) -> Decided
     requires { ⌜ Enough (now mem) ⌝ ∗ ⌜ d < domainsMost ⌝ }
-    ensures { λ r. ⌜ Decides r (decideRule (stateOf (now (mem .entry))) d op) (looks (named (op .number))) ⌝ }
+    ensures { λ r. ⌜ Decides r (decideRule (stateOf (now (mem .entry))) d op) (looks (stateOf (now (mem .entry))) d (named (op .number)) op) ⌝ }
 {
     let number = op.number;
     match number {

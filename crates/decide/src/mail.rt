@@ -17,6 +17,7 @@ ghost use Rattle.rules.specs.Sizes.{domainsMost, allSlots, slots, mailboxes};
 ghost use Rattle.rules.specs.Turn.{send as sendRule, receive as receiveRule, copied as copiedRule};
 ghost use Rattle.layout.specs.Layout.{stateOf, Enough};
 ghost use Rattle.decide.specs.Decides.{Decides, Carries, Takes, messageOf};
+ghost use Rattle.decide.specs.Visits.{looksSend, looksReceive};
 
 // The message that SEND makes of its operation, under that badge.
 fn written(op: Operation, badge: u32) -> Message
@@ -89,7 +90,7 @@ fn along(mem: &[u32], d: u32, c: u32, rights: u32, visits: u32) -> Looked
 
 pub fn send(mem: &[u32], d: u32, op: Operation) -> Decided
     requires { ⌜ Enough (now mem) ⌝ ∗ ⌜ d < domainsMost ⌝ }
-    ensures { λ r. ⌜ Decides r (sendRule (stateOf (now (mem .entry))) d (op .first) (op .second) (op .third) (op .fourth) (op .fifth) (op .sixth)) 2 ⌝ }
+    ensures { λ r. ⌜ Decides r (sendRule (stateOf (now (mem .entry))) d (op .first) (op .second) (op .third) (op .fourth) (op .fifth) (op .sixth)) (looksSend (stateOf (now (mem .entry))) d (op .first) (op .second)) ⌝ }
 {
     let k = slot_for(mem, d, op.first, 2, 2);
     if k.refusal != 0 {
@@ -145,7 +146,7 @@ fn take(mem: &[u32], d: u32, m: u32, t: u32, visits: u32) -> Taken
 
 pub fn receive(mem: &[u32], d: u32, x: u32, t: u32) -> Decided
     requires { ⌜ Enough (now mem) ⌝ ∗ ⌜ d < domainsMost ⌝ }
-    ensures { λ r. ⌜ Decides r (receiveRule (stateOf (now (mem .entry))) d x t) 3 ⌝ }
+    ensures { λ r. ⌜ Decides r (receiveRule (stateOf (now (mem .entry))) d x t) (looksReceive (stateOf (now (mem .entry))) d x t) ⌝ }
 {
     let k = slot_for(mem, d, x, 2, 1);
     if k.refusal != 0 {

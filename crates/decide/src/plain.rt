@@ -18,6 +18,7 @@ ghost use Rattle.rules.specs.Sizes.{domainsMost, allSlots};
 ghost use Rattle.rules.specs.Turn.{load as loadRule, store as storeRule, derived as derivedRule, derive as deriveRule, delete as deleteRule, revoke as revokeRule, ring as ringRule, hear as hearRule, look as lookRule};
 ghost use Rattle.layout.specs.Layout.{stateOf, Enough};
 ghost use Rattle.decide.specs.Decides.{Decides, Looks, wordFor, doneBy};
+ghost use Rattle.decide.specs.Visits.{seen, looksDerive};
 
 pub fn idle() -> Decided
     ensures { λ r. ⌜ Decides r (doneBy Effect.Nothing 0) 0 ⌝ }
@@ -46,7 +47,7 @@ fn word_for(mem: &[u32], d: u32, x: u32, w: u32, right: u32) -> Looked
 
 pub fn load(mem: &[u32], d: u32, x: u32, w: u32) -> Decided
     requires { ⌜ Enough (now mem) ⌝ ∗ ⌜ d < domainsMost ⌝ }
-    ensures { λ r. ⌜ Decides r (loadRule (stateOf (now (mem .entry))) d x w) 1 ⌝ }
+    ensures { λ r. ⌜ Decides r (loadRule (stateOf (now (mem .entry))) d x w) (seen x) ⌝ }
 {
     let k = word_for(mem, d, x, w, 1);
     if k.refusal != 0 {
@@ -61,7 +62,7 @@ pub fn load(mem: &[u32], d: u32, x: u32, w: u32) -> Decided
 
 pub fn store(mem: &[u32], d: u32, x: u32, w: u32, v: u32) -> Decided
     requires { ⌜ Enough (now mem) ⌝ ∗ ⌜ d < domainsMost ⌝ }
-    ensures { λ r. ⌜ Decides r (storeRule (stateOf (now (mem .entry))) d x w v) 1 ⌝ }
+    ensures { λ r. ⌜ Decides r (storeRule (stateOf (now (mem .entry))) d x w v) (seen x) ⌝ }
 {
     let k = word_for(mem, d, x, w, 2);
     if k.refusal != 0 {
@@ -93,7 +94,7 @@ fn derived(c: Capability, place: u32, r: u32, b: u32) -> Capability
 
 pub fn derive(mem: &[u32], d: u32, x: u32, t: u32, r: u32, b: u32) -> Decided
     requires { ⌜ Enough (now mem) ⌝ ∗ ⌜ d < domainsMost ⌝ }
-    ensures { λ y. ⌜ Decides y (deriveRule (stateOf (now (mem .entry))) d x t r b) 2 ⌝ }
+    ensures { λ y. ⌜ Decides y (deriveRule (stateOf (now (mem .entry))) d x t r b) (looksDerive (stateOf (now (mem .entry))) d x t) ⌝ }
 {
     let k = any_slot(mem, d, x, 0);
     if k.refusal != 0 {
@@ -118,7 +119,7 @@ pub fn derive(mem: &[u32], d: u32, x: u32, t: u32, r: u32, b: u32) -> Decided
 
 pub fn delete(mem: &[u32], d: u32, x: u32) -> Decided
     requires { ⌜ Enough (now mem) ⌝ ∗ ⌜ d < domainsMost ⌝ }
-    ensures { λ r. ⌜ Decides r (deleteRule (stateOf (now (mem .entry))) d x) 1 ⌝ }
+    ensures { λ r. ⌜ Decides r (deleteRule (stateOf (now (mem .entry))) d x) (seen x) ⌝ }
 {
     let k = any_slot(mem, d, x, 0);
     if k.refusal != 0 {
@@ -129,7 +130,7 @@ pub fn delete(mem: &[u32], d: u32, x: u32) -> Decided
 
 pub fn revoke(mem: &[u32], d: u32, x: u32) -> Decided
     requires { ⌜ Enough (now mem) ⌝ ∗ ⌜ d < domainsMost ⌝ }
-    ensures { λ r. ⌜ Decides r (revokeRule (stateOf (now (mem .entry))) d x) 1 ⌝ }
+    ensures { λ r. ⌜ Decides r (revokeRule (stateOf (now (mem .entry))) d x) (seen x) ⌝ }
 {
     let k = any_slot(mem, d, x, 0);
     if k.refusal != 0 {
@@ -140,7 +141,7 @@ pub fn revoke(mem: &[u32], d: u32, x: u32) -> Decided
 
 pub fn ring(mem: &[u32], d: u32, x: u32) -> Decided
     requires { ⌜ Enough (now mem) ⌝ ∗ ⌜ d < domainsMost ⌝ }
-    ensures { λ r. ⌜ Decides r (ringRule (stateOf (now (mem .entry))) d x) 1 ⌝ }
+    ensures { λ r. ⌜ Decides r (ringRule (stateOf (now (mem .entry))) d x) (seen x) ⌝ }
 {
     let k = slot_for(mem, d, x, 3, 2);
     if k.refusal != 0 {
@@ -155,7 +156,7 @@ pub fn ring(mem: &[u32], d: u32, x: u32) -> Decided
 
 pub fn hear(mem: &[u32], d: u32, x: u32) -> Decided
     requires { ⌜ Enough (now mem) ⌝ ∗ ⌜ d < domainsMost ⌝ }
-    ensures { λ r. ⌜ Decides r (hearRule (stateOf (now (mem .entry))) d x) 1 ⌝ }
+    ensures { λ r. ⌜ Decides r (hearRule (stateOf (now (mem .entry))) d x) (seen x) ⌝ }
 {
     let k = slot_for(mem, d, x, 3, 1);
     if k.refusal != 0 {
@@ -170,7 +171,7 @@ pub fn hear(mem: &[u32], d: u32, x: u32) -> Decided
 
 pub fn look(mem: &[u32], d: u32, x: u32) -> Decided
     requires { ⌜ Enough (now mem) ⌝ ∗ ⌜ d < domainsMost ⌝ }
-    ensures { λ r. ⌜ Decides r (lookRule (stateOf (now (mem .entry))) d x) 1 ⌝ }
+    ensures { λ r. ⌜ Decides r (lookRule (stateOf (now (mem .entry))) d x) (seen x) ⌝ }
 {
     let k = any_slot(mem, d, x, 0);
     if k.refusal != 0 {

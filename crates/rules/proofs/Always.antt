@@ -10,7 +10,7 @@ use lib.ListN.{length, getD}
 use lib.Bits.{bitAnd, bitOr, and-le-l, or-lt}
 use borrow.Author.Tests.{eqb-true, eqb-false}
 use Rattle.rules.specs.Sizes.{domainsMost, slots, allSlots, places, badgeMost}
-use Rattle.rules.specs.State.{State, Places, GRANT, within, slot, room, nothing, noMessage, whose, Holds, Source, Derived, direct, further, derivedFrom, Fits, Section4, WellFormed, Formed}
+use Rattle.rules.specs.State.{State, Places, GRANT, within, slot, room, nothing, noMessage, whose, Holds, Source, Derived, direct, further, derivedFrom, Fits, Section4, WellFormed, Formed, Sound}
 use Rattle.rules.specs.Turn.{held, derived, copied, set, dropped, pruned, changed, apply, advance, next, decide}
 use Rattle.rules.specs.Authority.{Reached, booted, turned, Section4Always, FormedAlways, TestIsDerived, SameButSource}
 use Rattle.rules.specs.declared.Capability.{Capability}
@@ -23,11 +23,6 @@ use Rattle.rules.proofs.Licence.{Has, Owns, Free, Licence, nothing-done
 use Rattle.rules.proofs.Derivation.{Leaf}
 use Rattle.rules.proofs.Chain.{test-is-derived}
 use Rattle.rules.proofs.Section4.{section4-changed, section4-dropped, section4-pruned, empty-leaf, dropped-alike}
-
--- sections 1, 2 and 4 of a state
-pub record Sound (s : State) : Type 0 where
-  pub formed : Formed s
-  pub section4 : Section4 (s .capability)
 
 -- ---- section 4
 

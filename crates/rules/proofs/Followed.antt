@@ -8,7 +8,7 @@ use Prim.Native.Nat.{ℕ, zero, suc, _≤_, _<_}
 use native.Mathlib.Omega.{arith}
 use lib.Dec.{eqb, eqb·suc-zero}
 use Rattle.rules.specs.Sizes.{places}
-use Rattle.rules.specs.State.{State, Places, slot, room, nothing, whose, Holds, Source, Derived, direct, further, Formed}
+use Rattle.rules.specs.State.{State, Places, slot, room, nothing, whose, Holds, Source, Derived, direct, further, Formed, Sound}
 use Rattle.rules.specs.Turn.{anySlot, words, refusal, conclude, load, store, derived, derive, delete, revoke, ring, hear, copied, goes, send, moves, receive, look, Name, IDLE, LOAD, STORE, DERIVE, DELETE, REVOKE, RING, HEAR, SEND, RECEIVE, LOOK, unknown, named, decided, decide, held, set, dropped, pruned, apply, advance, next, answer}
 use Rattle.rules.specs.Image.{Bytes, refusalOf, imageOf, boot}
 use Rattle.rules.specs.Authority.{Reached, booted, turned}
@@ -24,7 +24,7 @@ use Rattle.rules.proofs.Licence.{Licence, by-name, needed, licensed}
 use Rattle.rules.proofs.Places.{same?, dropped-here}
 use Rattle.rules.proofs.Derivation.{Leaf, changed-back, changed-on, dropped-back, dropped-on, pruned-back, pruned-on}
 use Rattle.rules.proofs.Section4.{dropped-alike, empty-leaf}
-use Rattle.rules.proofs.Always.{Sound, room-leaf, derived-made, copied-made, pruning-gone, pruning-kept, pruning-either}
+use Rattle.rules.proofs.Always.{room-leaf, derived-made, copied-made, pruning-gone, pruning-kept, pruning-either}
 use Rattle.rules.proofs.Revoke.{sources-held, revoking}
 use Rattle.rules.proofs.Reached.{sound, sound-next, revoke-exactly}
 use Rattle.rules.proofs.History.{Kept, kept-fewer, kept-born, kept-moved}

@@ -10,7 +10,7 @@ use native.Mathlib.Nat.{le-trans}
 use lib.Dec.{eqb}
 use lib.ListN.{length, getD}
 use borrow.Author.Tests.{eqb-true, eqb-false}
-use Rattle.rules.specs.State.{State, slot, room, whose, Derived, Section4, Formed}
+use Rattle.rules.specs.State.{State, slot, room, whose, Derived, Section4, Formed, Sound}
 use Rattle.rules.specs.Turn.{apply, advance, next, decide}
 use Rattle.rules.specs.Image.{Bytes, Entry, Image, refusalOf, imageOf, capabilityOf, given, boot}
 use Rattle.rules.specs.Flow.{tripleOf, image}
@@ -19,7 +19,7 @@ use Rattle.rules.specs.declared.Operation.{Operation}
 use Rattle.rules.proofs.Laws.{passes, within-refl}
 use Rattle.rules.proofs.Licence.{licensed}
 use Rattle.rules.proofs.Section4.{never-more-than}
-use Rattle.rules.proofs.Always.{Sound, section4-kept}
+use Rattle.rules.proofs.Always.{section4-kept}
 use Rattle.rules.proofs.Formed.{formed-kept, whose-low}
 use Rattle.rules.proofs.Given.{given-from, FormRight, form-right}
 use Rattle.rules.proofs.Bootable.{held-below, boot-section4, boot-formed}

@@ -5,7 +5,7 @@ use mathlib.Core.List.{List}
 use mathlib.Core.Logic.{_⊎_, inl, inr, ⊎-elim}
 use Prim.Native.Nat.{ℕ, zero, suc, _<_}
 use native.Mathlib.Omega.{arith}
-use Rattle.rules.specs.State.{State, Places, slot, room, nothing, whose, Holds, Source, Derived, Section4, Formed}
+use Rattle.rules.specs.State.{State, Places, slot, room, nothing, whose, Holds, Source, Derived, Section4, Formed, Sound}
 use Rattle.rules.specs.Turn.{anySlot, words, conclude, delete, revoke, Name, DELETE, REVOKE, named, decided, decide, held, derived, copied, set, dropped, pruned, apply, advance, next, answer}
 use Rattle.rules.specs.Authority.{Reached, OnlyPlaces, Revoked, RevokeExactly, Deleted, DeleteKeeps, ReusedIsFresh}
 use Rattle.rules.specs.declared.Capability.{Capability}
@@ -18,7 +18,7 @@ use Rattle.rules.proofs.Licence.{Licence, nothing-done, stores, rings, 
 use Rattle.rules.proofs.Places.{dropped-here, each-dropped, each-pruned}
 use Rattle.rules.proofs.Derivation.{dropped-back, dropped-on, leaf-childless}
 use Rattle.rules.proofs.Section4.{dropped-alike}
-use Rattle.rules.proofs.Always.{Sound, Made, derived-made, copied-made, pruning-gone, pruning-kept}
+use Rattle.rules.proofs.Always.{Made, derived-made, copied-made, pruning-gone, pruning-kept}
 
 -- an operation that was not refused has its effect
 succeeded : (e : ℕ) (f : Effect) (a : Answer) → conclude e f a .answer .status ≡ 0 → conclude e f a .effect ≡ f

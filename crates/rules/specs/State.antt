@@ -142,3 +142,8 @@ pub record Formed (s : State) : Type 0 where
   pub full : (m : ℕ) → s .message m .full ≤ 1
   pub emptied : (m : ℕ) → s .message m .full ≡ 0 → (s .message m ≡ noMessage) × (s .capability (room m) .kind ≡ 0)
   pub badge : (m : ℕ) → s .message m .badge ≤ badgeMost
+
+-- sections 1, 2 and 4 of a whole state
+pub record Sound (s : State) : Type 0 where
+  pub formed : Formed s
+  pub section4 : Section4 (s .capability)

@@ -11,12 +11,12 @@ use lib.Dec.{eqb, ltb}
 use lib.ListN.{getD}
 use borrow.Author.Tests.{ltb-true, ltb-false, lt-ltb, le-ltb, eqb-true, eqb-false, eq-eqb, ne-eqb}
 use Rattle.rules.specs.Sizes.{places}
-use Rattle.rules.specs.State.{State, nothing, Derived, direct, further}
+use Rattle.rules.specs.State.{State, nothing, Derived, direct, further, Sound}
 use Rattle.rules.specs.Turn.{set, pruned, withPlaces}
 use Rattle.rules.specs.declared.Capability.{Capability}
 use Rattle.rules.proofs.Laws.{not-both}
 use Rattle.rules.proofs.Places.{same?}
-use Rattle.rules.proofs.Always.{Sound, pruning-gone, pruning-kept}
+use Rattle.rules.proofs.Always.{pruning-gone, pruning-kept}
 use Rattle.layout.specs.Layout.{stateOf, visitsMost}
 use Rattle.layout.specs.Stored.{Stored, placed}
 use Rattle.layout.proofs.Stores.{stored-then}

@@ -7,14 +7,14 @@ use rules::Capability;
 ghost use mathlib.Core.Path.{_≡_};
 ghost use mathlib.Core.Bool.{cond};
 ghost use Prim.Native.Nat.{suc, _+_, _*_, _≤_, _<_};
-ghost use lib.ListN.{length};
+ghost use lib.ListN.{length, set};
 ghost use Rattle.rules.specs.Sizes.{places};
-ghost use Rattle.rules.specs.State.{nothing};
-ghost use Rattle.rules.proofs.Always.{Sound};
+ghost use Rattle.rules.specs.State.{nothing, Sound};
 ghost use Rattle.layout.specs.Layout.{stateOf, Enough, visitsMost};
 ghost use Rattle.layout.specs.Stored.{Stored, placed};
 ghost use Rattle.tree.specs.Tree.{placesOf, dropping, pruning, handing, dropVisits, pruneVisits};
 ghost use Rattle.tree.specs.Marks.{Blank, Marks, Swept, Closed, chosen, toEmpty, clearing, emptying};
+ghost use Rattle.tree.specs.Sweeps.{marking, marksTo, Searched, PruneVisits};
 
 const PLACES: u32 = 1088;
 
@@ -70,7 +70,7 @@ struct Tally {
 // One visit: place to is marked where its source is.
 fn mark(mem: &[u32], marks: &mut [u8], to: u32, marked: u32, visits: u32) -> Tally
     requires { ⌜ Enough (now mem) ⌝ ∗ ⌜ Marks marked (now marks) ⌝ ∗ ⌜ to < places ⌝ ∗ ⌜ visits < visitsMost ⌝ }
-    ensures { λ r. ⌜ (r .visits ≡ visits + 1) × Swept (placesOf (now (mem .entry))) to (to + 1) marked (now (marks .entry)) (r .marked) (now (marks .exit)) ⌝ }
+    ensures { λ r. ⌜ (r .visits ≡ visits + 1) × Swept (placesOf (now (mem .entry))) to (to + 1) marked (now (marks .entry)) (r .marked) (now (marks .exit)) × (now (marks .exit) ≡ marking (placesOf (now (mem .entry))) to (now (marks .entry))) ⌝ }
 {
     let at = source_of(mem, to, visits);
     let from = at.source as usize;
@@ -95,7 +95,7 @@ fn mark(mem: &[u32], marks: &mut [u8], to: u32, marked: u32, visits: u32) -> Tal
 // A visit to each place: it is marked where its source is.
 fn sweep(mem: &[u32], marks: &mut [u8], marked: u32, visits: u32) -> Tally
     requires { ⌜ Enough (now mem) ⌝ ∗ ⌜ Marks marked (now marks) ⌝ ∗ ⌜ visits + places ≤ visitsMost ⌝ }
-    ensures { λ r. ⌜ (r .visits ≡ visits + places) × Swept (placesOf (now (mem .entry))) 0 places marked (now (marks .entry)) (r .marked) (now (marks .exit)) ⌝ }
+    ensures { λ r. ⌜ (r .visits ≡ visits + places) × Swept (placesOf (now (mem .entry))) 0 places marked (now (marks .entry)) (r .marked) (now (marks .exit)) × (now (marks .exit) ≡ marksTo (placesOf (now (mem .entry))) places (now (marks .entry))) ⌝ }
 {
     let mut t = Tally {
         marked: marked,
@@ -108,10 +108,10 @@ fn sweep(mem: &[u32], marks: &mut [u8], marked: u32, visits: u32) -> Tally
 }
 
 // Marks place p and whatever is derived from it, by sweeps until one makes no mark. Each sweep but the last makes one at least, and p's was
-// there before the first: there are no more sweeps than places.
+// there before the first: there are no more sweeps than places. The visits are exactly those of the sweeps.
 fn mark_derived(mem: &[u32], marks: &mut [u8], p: u32, visits: u32) -> u32
     requires { ⌜ Enough (now mem) ⌝ ∗ ⌜ Blank (now marks) ⌝ ∗ ⌜ p < places ⌝ ∗ ⌜ visits ≤ 1 ⌝ }
-    ensures { λ r. ⌜ (r ≤ visits + places * places) × Closed (placesOf (now (mem .entry))) p (now (marks .exit)) ⌝ }
+    ensures { λ r. ⌜ (r ≤ visits + places * places) × Closed (placesOf (now (mem .entry))) p (now (marks .exit)) × Searched (placesOf (now (mem .entry))) (set (now (marks .entry)) (p + 1) 1) (now (marks .exit)) visits r ⌝ }
 {
     marks[p as usize + 1] = 1;
     let mut before = 0;
@@ -152,10 +152,11 @@ fn clear_marked(mem: &mut [u32], marks: &[u8], p: u32, visits: u32) -> u32
     n
 }
 
-// REVOKE of place p: every place derived from p is empty. Exact on sound memory; on any memory it ends within its visits.
+// REVOKE of place p: every place derived from p is empty. Exact on sound memory; on any memory it ends, its visits are exactly those of the
+// sweeps and of what is emptied, and within the limit.
 pub fn prune(mem: &mut [u32], p: u32, visits: u32) -> u32
     requires { ⌜ Enough (now mem) ⌝ ∗ ⌜ p < places ⌝ ∗ ⌜ visits ≤ 1 ⌝ }
-    ensures { λ r. ⌜ (r ≤ visits + pruneVisits) × Stored (Sound (stateOf (now (mem .entry)))) (pruning p) (now (mem .entry)) (now (mem .exit)) ⌝ }
+    ensures { λ r. ⌜ (r ≤ visits + pruneVisits) × Stored (Sound (stateOf (now (mem .entry)))) (pruning p) (now (mem .entry)) (now (mem .exit)) × PruneVisits (placesOf (now (mem .entry))) p visits r ⌝ }
 {
     let mut marks = [0u8; SOURCES];
     let n = mark_derived(mem, &mut marks, p, visits);

@@ -8,7 +8,7 @@ use native.Mathlib.Omega.{arith}
 use lib.Dec.{eqb}
 use lib.Bits.{bitOr}
 use Rattle.rules.specs.Sizes.{domainsMost, slots, allSlots, places, mailboxes, bells, frameWords}
-use Rattle.rules.specs.State.{State, FRAME, MAILBOX, BELL, slot, nothing, noMessage, whose, objects, Section4, Formed}
+use Rattle.rules.specs.State.{State, FRAME, MAILBOX, BELL, slot, nothing, noMessage, whose, objects, Section4, Formed, Sound}
 use Rattle.rules.specs.Turn.{held, words, conclude, load, store, derived, derive, delete, revoke, ring, hear, copied, goes, send, moves, receive, look, Name, IDLE, LOAD, STORE, DERIVE, DELETE, REVOKE, RING, HEAR, SEND, RECEIVE, LOOK, unknown, named, decided, decide, apply}
 use Rattle.rules.specs.declared.Capability.{Capability}
 use Rattle.rules.specs.declared.Message.{Message}
@@ -20,9 +20,10 @@ use Rattle.rules.proofs.Licence.{Owns, Licence, nothing-done, stores, rings, hu
 use Rattle.layout.specs.Layout.{stateOf}
 use Rattle.layout.specs.Stored.{Stored, placed, worded, belled, mailed}
 use Rattle.layout.proofs.Stores.{stored-nothing, stored-then}
-use Rattle.rules.proofs.Always.{Sound}
-use Rattle.tree.specs.Tree.{dropping, pruning, dropVisits, pruneVisits}
-use Rattle.turn.specs.Turned.{Named, Fitting, cost, allowed, Applied}
+use Rattle.tree.specs.Tree.{placesOf, dropping, pruning, dropVisits, pruneVisits}
+use Rattle.tree.specs.Sweeps.{PruneVisits}
+use Rattle.turn.specs.Turned.{Named, Fitting, Applied}
+use Rattle.turn.specs.Visits.{Visited, cost, allowed}
 
 -- the places that a licensed effect names are slots of its domain
 pub licensed-named : {s : State} {d : ℕ} {e : Effect} → d < domainsMost → Licence s d e → Named e
@@ -96,15 +97,15 @@ module _ (s : State) (d : ℕ) where
 
 -- an object that there is not: nothing is stored
 pub applied-none : {m : List ℕ} {before b : ℕ} {g : Message} {c : Capability} → mailboxes ≤ b → Applied m (Post b g c) m before before
-applied-none h = record { stored = stored-nothing (λ o. omega arith); within = omega arith; still = absurd }
+applied-none h = record { stored = stored-nothing (λ o. omega arith); within = omega arith; counted = λ o. absurd (omega arith); still = absurd }
 
 pub applied-no-move : {m : List ℕ} {before b p : ℕ} → mailboxes ≤ b → Applied m (Move b p) m before before
-applied-no-move h = record { stored = stored-nothing (λ o. omega arith); within = omega arith; still = absurd }
+applied-no-move h = record { stored = stored-nothing (λ o. omega arith); within = omega arith; counted = λ o. absurd (omega arith); still = absurd }
 
 module _ {m n : List ℕ} {before : ℕ} where
   pub applied-store : {f w v : ℕ} → Stored ((f < stateOf m .frames) × (w < frameWords)) (worded f w v) m n → Applied m (Store f w v) n before before
   unfolding worded apply
-  applied-store s = record { stored = s; within = omega arith; still = absurd }
+  applied-store s = record { stored = s; within = omega arith; counted = λ o. omega arith; still = absurd }
 
   pub applied-ring : {b v badge : ℕ} → v ≡ bitOr (stateOf m .bell b) badge → Stored (b < bells) (belled b v) m n → Applied m (Ring b badge) n before before
   unfolding belled apply
@@ -112,16 +113,17 @@ module _ {m n : List ℕ} {before : ℕ} where
       record {
         stored = record { long = s .long; frames = s .frames; behind = s .behind; exact = λ o. s .exact o ∙ ap (λ x. belled b x (stateOf m)) e };
         within = omega arith;
+        counted = λ o. omega arith;
         still = absurd;
       }
 
   pub applied-hush : {b : ℕ} → Stored (b < bells) (belled b 0) m n → Applied m (Hush b) n before before
   unfolding belled apply
-  applied-hush s = record { stored = s; within = omega arith; still = absurd }
+  applied-hush s = record { stored = s; within = omega arith; counted = λ o. omega arith; still = absurd }
 
   pub applied-put : {p r : ℕ} {c : Capability} → Stored (p < places) (placed p c) m n → r ≡ before + 1 → Applied m (Put p c) n before r
   unfolding placed apply
-  applied-put s e = record { stored = s; within = omega arith; still = absurd }
+  applied-put s e = record { stored = s; within = omega arith; counted = λ o. e; still = absurd }
 
   pub applied-post : {o : List ℕ} {b r : ℕ} {g : Message} {c : Capability} → b < mailboxes → Stored (allSlots + b < places) (placed (allSlots + b) c) m o
       → Stored (b < mailboxes) (mailed b g) o n → r ≡ before + 1 → Applied m (Post b g c) n before r
@@ -131,12 +133,13 @@ module _ {m n : List ℕ} {before : ℕ} where
       record {
         stored = record { long = u .long; frames = u .frames; behind = u .behind; exact = λ k. u .exact (omega arith, k) };
         within = omega arith;
+        counted = λ o. e;
         still = absurd;
       }
 
   pub applied-take : {b r : ℕ} → Applied m (Post b noMessage nothing) n before r → Applied m (Take b) n before r
   unfolding apply
-  applied-take a = record { stored = a .stored; within = a .within; still = absurd }
+  applied-take a = record { stored = a .stored; within = a .within; counted = a .counted; still = absurd }
 
   pub applied-move : {o : List ℕ} {b p seen mid r : ℕ} {c : Capability} → b < mailboxes → p < places → c ≡ stateOf m .capability (allSlots + b)
       → seen ≡ before + 1 → Applied m (Take b) o seen mid → Stored (p < places) (placed p c) o n → r ≡ mid + 1 → Applied m (Move b p) n before r
@@ -144,27 +147,30 @@ module _ {m n : List ℕ} {before : ℕ} where
   applied-move {b = b} {p} h l e g a s f =
       let u = stored-then (a .stored) s in
       let w = a .within in
+      let taken = a .counted h in
       record {
         stored = record { long = u .long; frames = u .frames; behind = u .behind; exact = λ k. u .exact (k, l) ∙ ap (λ x. placed p x (apply (stateOf m) (Take b))) e };
         within = omega arith;
+        counted = λ o. omega arith;
         still = absurd;
       }
 
 -- nothing, and the sweeps
 pub applied-nothing : {m : List ℕ} {before : ℕ} → Applied m Nothing m before before
 unfolding apply
-applied-nothing = record { stored = record { long = refl; frames = refl; behind = λ k h. refl; exact = λ o. refl }; within = omega arith; still = λ i. refl }
+applied-nothing = record { stored = record { long = refl; frames = refl; behind = λ k h. refl; exact = λ o. refl }; within = omega arith; counted = λ o. omega arith; still = λ i. refl }
 
 pub applied-drop : {m n : List ℕ} {before p r : ℕ} → r ≡ before + dropVisits → Stored (p < places) (dropping p) m n → Applied m (Drop p) n before r
 unfolding dropping apply
-applied-drop e s = record { stored = s; within = omega arith; still = absurd }
+applied-drop e s = record { stored = s; within = omega arith; counted = λ o. e; still = absurd }
 
-pub applied-prune : {m n : List ℕ} {before p r : ℕ} → r ≤ before + pruneVisits → Stored (Sound (stateOf m)) (pruning p) m n → Applied m (Prune p) n before r
+pub applied-prune : {m n : List ℕ} {before p r : ℕ} → r ≤ before + pruneVisits → Stored (Sound (stateOf m)) (pruning p) m n → PruneVisits (placesOf m) p before r → Applied m (Prune p) n before r
 unfolding pruning apply
-applied-prune e s =
+applied-prune e s v =
     record {
       stored = record { long = s .long; frames = s .frames; behind = s .behind; exact = λ o. s .exact (record { formed = o .0; section4 = o .1 }) };
       within = omega arith;
+      counted = λ o. v;
       still = absurd;
     }
 

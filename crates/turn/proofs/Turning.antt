@@ -19,20 +19,21 @@ use Rattle.rules.specs.declared.Decision.{Decision}
 use Rattle.rules.proofs.Laws.{concluded, concluded-both}
 use Rattle.rules.proofs.Fixed.{apply-fixed}
 use Rattle.rules.proofs.Licence.{Licence, licensed}
-use Rattle.rules.proofs.Always.{Sound}
 use Rattle.rules.proofs.Formed.{whose-low}
 use Rattle.rules.proofs.Reached.{sound-next}
 use Rattle.layout.specs.Layout.{stateOf, positionAt, need, Enough}
 use Rattle.layout.specs.Stored.{Stored, Placed, Elsewhere}
-use Rattle.turn.specs.Turned.{Turned, Good, Exact, visitsFor, Named, Fitting, cost, allowed, Idle, Applied, Whose}
-use Rattle.decide.specs.Decides.{looks}
+use Rattle.turn.specs.Turned.{Turned, Good, Exact, Named, Fitting, Idle, Applied, Whose}
+use Rattle.turn.specs.Visits.{visitsFor, Visited, cost, allowed}
+use Rattle.decide.specs.Visits.{looks, looksMost}
+use Rattle.decide.proofs.Visits.{looks-most}
 use Rattle.turn.proofs.Effects.{licensed-named, licensed-fitting, most, cheap}
 
 -- ---- the checks' decision
 
 module _ (s : State) (d : ℕ) where
   -- the visits before the effect are as many as it allows
-  spare : (n : Name) (o : Operation) → looks n ≤ allowed (decided s d n o .effect)
+  spare : (n : Name) (o : Operation) → looksMost n ≤ allowed (decided s d n o .effect)
   unfolding decided load store derive delete revoke ring hear send receive look
   spare IDLE o = concluded (λ e. 0 ≤ allowed e) _ _ _ (omega arith) (λ h. omega arith)
   spare LOAD o = concluded (λ e. 1 ≤ allowed e) _ _ _ (omega arith) (λ h. omega arith)
@@ -74,7 +75,7 @@ module _ (s : State) (d : ℕ) where
       by unknown = concluded-both P _ _ _ (λ k h. tt) (λ e h. absurd (h refl))
 
 -- the checks and the effect together are within the limit
-limit : (n : Name) → looks n + most n ≤ visitsFor n
+limit : (n : Name) → looksMost n + most n ≤ visitsFor n
 unfolding most
 limit IDLE = omega arith
 limit LOAD = omega arith
@@ -95,9 +96,9 @@ module _ (s : State) (d : ℕ) (o : Operation) {x : Decision} (e : x ≡ decide 
   pub apply-named : d < domainsMost → Named (x .effect)
   apply-named h = subst (λ y. Named (y .effect)) (sym e) (licensed-named h (licensed s d o))
 
-  pub apply-allowed : {k : ℕ} → k ≤ looks (named (o .number)) → k ≤ allowed (x .effect)
+  pub apply-allowed : {j k : ℕ} → k ≡ looks s d (named (o .number)) o → j ≤ k → j ≤ allowed (x .effect)
   unfolding decide
-  apply-allowed {k} h = subst (λ y. k ≤ allowed (y .effect)) (sym e) (let g = spare s d (named (o .number)) o in omega arith)
+  apply-allowed {j} h i = subst (λ y. j ≤ allowed (y .effect)) (sym e) (let g = spare s d (named (o .number)) o in let l = looks-most s d (named (o .number)) o in omega arith)
 
   effect-cost : cost (x .effect) ≤ most (named (o .number))
   unfolding decide
@@ -123,15 +124,15 @@ turned-short {m} {o} f e =
       long = refl;
       behind = λ k l. refl;
       within = omega arith;
-      short = λ l. (refl, refl);
+      short = λ l. (refl, refl, refl);
       refused = λ n k l. refl;
       exact = λ g. absurd (let l = g .enough in omega arith);
     }
 
 module _ (o : Operation) {m n₁ n : List ℕ} {x : Decision} {w k v : ℕ} (enough : Enough m) (who : w ≡ whose (stateOf m))
-    (e : x ≡ decide (stateOf m) (w % 16) o) (looked : k ≤ looks (named (o .number))) (a : Applied m (x .effect) n₁ k v)
+    (e : x ≡ decide (stateOf m) (w % 16) o) (looked : k ≡ looks (stateOf m) (w % 16) (named (o .number)) o) (a : Applied m (x .effect) n₁ k v)
     (moved : Stored (Placed (stateOf n₁)) advance n₁ n) (apart : Elsewhere positionAt n₁ n) where
-  exactly : Good m → Exact m o n (x .answer)
+  exactly : Good m → Exact m o n (x .answer) v
   unfolding next answer
   exactly g =
       let d : w % 16 ≡ whose (stateOf m) = (let l = whose-low (g .formed) in let h = g .formed .domains .1 in mod-eq-of-lt (omega arith) ∙ who) in
@@ -149,6 +150,9 @@ module _ (o : Operation) {m n₁ n : List ℕ} {x : Decision} {w k v : ℕ} (eno
       record {
         state = two;
         answered = ap (λ z. z .answer) y;
+        counted =
+            subst (λ z. Visited (stateOf m) (z .effect) (looks (stateOf m) (whose (stateOf m)) (named (o .number)) o) v) y
+            (subst (λ z. Visited (stateOf m) f z v) (looked ∙ ap (λ z. looks (stateOf m) z (named (o .number)) o) d) (a .counted fit));
         good = record {
           enough = let p = a .stored .frames in let q = moved .frames in let r = a .stored .long in let t = moved .long in let u = g .enough in omega arith;
           formed = subst (λ s. Formed s) (sym two) (again .formed);
@@ -161,7 +165,7 @@ module _ (o : Operation) {m n₁ n : List ℕ} {x : Decision} {w k v : ℕ} (eno
       record {
         long = moved .long ∙ a .stored .long;
         behind = λ j h. moved .behind j (let p = a .stored .frames in omega arith) ∙ a .stored .behind j h;
-        within = let p = a .within in let q = effect-cost (stateOf m) (w % 16) o e in let r = limit (named (o .number)) in omega arith;
+        within = let p = a .within in let q = effect-cost (stateOf m) (w % 16) o e in let r = limit (named (o .number)) in let l = looks-most (stateOf m) (w % 16) (named (o .number)) o in omega arith;
         short = λ l. absurd (let h = enough in omega arith);
         refused = λ h j l. apart j l ∙ ap (λ y. getD y j 0) (a .still (effect-idle (stateOf m) (w % 16) o e h));
         exact = exactly;

@@ -1,32 +1,18 @@
 -- The contract of a turn over memory. Assumes nothing.
 use mathlib.Core.Path.{_≡_}
 use mathlib.Core.List.{List}
-use Prim.Native.Nat.{ℕ, _+_, _-_, _*_, _≤_, _<_}
+use Prim.Native.Nat.{ℕ, _+_, _≤_, _<_}
 use lib.ListN.{length, getD}
 use Rattle.rules.specs.Sizes.{places, mailboxes, bells, frameWords}
 use Rattle.rules.specs.State.{State, whose, Section4, Formed}
-use Rattle.rules.specs.Turn.{Name, IDLE, LOAD, STORE, DERIVE, DELETE, REVOKE, RING, HEAR, SEND, RECEIVE, LOOK, unknown, named, apply, next, answer, refusal}
+use Rattle.rules.specs.Turn.{named, apply, next, answer, refusal}
 use Rattle.rules.specs.declared.Operation.{Operation}
 use Rattle.rules.specs.declared.Answer.{Answer}
 use Rattle.rules.specs.declared.Effect.{Effect}
 use Rattle.rules.specs.declared.Effect.the-variants.{Nothing, Store, Ring, Hush, Put, Drop, Prune, Post, Take, Move}
 use Rattle.layout.specs.Layout.{stateOf, positionAt, need, Enough}
 use Rattle.layout.specs.Stored.{Stored, Elsewhere}
-
--- a turn may visit at most 1,088 * 1,089 places for REVOKE, and 2,176 for every other operation
-abbrev pub visitsFor : Name → ℕ
-visitsFor IDLE = 2 * places
-visitsFor LOAD = 2 * places
-visitsFor STORE = 2 * places
-visitsFor DERIVE = 2 * places
-visitsFor DELETE = 2 * places
-visitsFor REVOKE = places * (places + 1)
-visitsFor RING = 2 * places
-visitsFor HEAR = 2 * places
-visitsFor SEND = 2 * places
-visitsFor RECEIVE = 2 * places
-visitsFor LOOK = 2 * places
-visitsFor unknown = 2 * places
+use Rattle.turn.specs.Visits.{visitsFor, Visited, Counted, cost}
 
 -- good memory: long enough, and its state is as sections 1, 2 and 4 of document 01 say
 pub record Good (m : List ℕ) : Type 0 where
@@ -34,11 +20,12 @@ pub record Good (m : List ℕ) : Type 0 where
   pub formed : Formed (stateOf m)
   pub section4 : Section4 (stateOf m .capability)
 
--- the turn does what document 01 says: the next state, and the answer
-pub record Exact (m : List ℕ) (o : Operation) (n : List ℕ) (a : Answer) : Type 0 where
+-- the turn does what document 01 says: the next state, and the answer; and its visits are exactly those that it needs
+pub record Exact (m : List ℕ) (o : Operation) (n : List ℕ) (a : Answer) (visits : ℕ) : Type 0 where
   pub state : stateOf n ≡ next (stateOf m) o
   pub answered : a ≡ answer (stateOf m) o
   pub good : Good n
+  pub counted : Counted (stateOf m) o visits
 
 -- one turn on memory m, which becomes n, with answer a and so many visits
 pub record Turned (m : List ℕ) (o : Operation) (n : List ℕ) (a : Answer) (visits : ℕ) : Type 0 where
@@ -46,12 +33,12 @@ pub record Turned (m : List ℕ) (o : Operation) (n : List ℕ) (a : Answer) (vi
   pub long : length n ≡ length m
   pub behind : (k : ℕ) → need m ≤ k → getD n k 0 ≡ getD m k 0
   pub within : visits ≤ visitsFor (named (o .number))
-  -- memory too short for the state that it claims to hold: 29, and nothing changed
-  pub short : length m < need m → (n ≡ m) × (a ≡ refusal 29)
+  -- memory too short for the state that it claims to hold: 29, and nothing changed or visited
+  pub short : length m < need m → (n ≡ m) × (a ≡ refusal 29) × (visits ≡ 0)
   -- a refusal leaves every word but the position's as it was
   pub refused : (a .status ≡ 0 → ⊥) → Elsewhere positionAt m n
   -- good memory: what the rules say, and good memory again
-  pub exact : Good m → Exact m o n a
+  pub exact : Good m → Exact m o n a visits
 
 -- the domain whose turn is next; memory too short for a state: 29, which is no domain
 pub record Whose (m : List ℕ) (d : ℕ) : Type 0 where
@@ -86,32 +73,6 @@ Fitting s (Post m g c) = m < mailboxes
 Fitting s (Take m) = m < mailboxes
 Fitting s (Move m p) = m < mailboxes
 
--- how many visits an effect may take
-abbrev pub cost : Effect → ℕ
-cost Nothing = 0
-cost (Store f w v) = 0
-cost (Ring b v) = 0
-cost (Hush b) = 0
-cost (Put p c) = 1
-cost (Drop p) = places + 2
-cost (Prune p) = places * places + (places - 1)
-cost (Post m g c) = 1
-cost (Take m) = 1
-cost (Move m p) = 3
-
--- how many visits may have gone before an effect
-abbrev pub allowed : Effect → ℕ
-allowed Nothing = 3
-allowed (Store f w v) = 3
-allowed (Ring b v) = 3
-allowed (Hush b) = 3
-allowed (Put p c) = 3
-allowed (Drop p) = 3
-allowed (Prune p) = 1
-allowed (Post m g c) = 3
-allowed (Take m) = 3
-allowed (Move m p) = 3
-
 -- an effect that is none
 abbrev pub Idle : Effect → Type 0
 Idle Nothing = Unit {0}
@@ -129,4 +90,5 @@ Idle (Move m p) = ⊥
 pub record Applied (m : List ℕ) (e : Effect) (n : List ℕ) (before visits : ℕ) : Type 0 where
   pub stored : Stored (Fitting (stateOf m) e) (λ s. apply s e) m n
   pub within : visits ≤ before + cost e
+  pub counted : Fitting (stateOf m) e → Visited (stateOf m) e before visits
   pub still : Idle e → n ≡ m

@@ -7,7 +7,8 @@ use rules::Operation;
 ghost use mathlib.Core.Path.{_≡_};
 ghost use Prim.Native.Nat.{_≤_};
 ghost use Rattle.layout.specs.Layout.{Enough, wordsOf};
-ghost use Rattle.turn.specs.Turned.{Turned as TurnedBy, Whose, Named, allowed, Applied};
+ghost use Rattle.turn.specs.Turned.{Turned as TurnedBy, Whose, Named, Applied};
+ghost use Rattle.turn.specs.Visits.{allowed};
 
 // The answer, and how many places were visited.
 pub struct Turned {

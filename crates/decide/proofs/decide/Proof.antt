@@ -1,6 +1,6 @@
 -- `decide::decide` meets its contract. Assumes nothing.
-use native.Mathlib.Omega.{arith}
 use Rattle.rules.specs.Turn.{named, decided, conclude}
+use Rattle.decide.specs.Visits.{looks}
 use Rattle.decide.proofs.Checks.{by-number, by-no-number}
 use borrow.Author.Needs.{needs}
 use Rattle.decide.proofs.decide.Statement.{statement}
@@ -43,48 +43,48 @@ refused-requires : tie.Need-refused-requires
 refused-requires c κs = search needs
 
 returns : tie.Need-returns
-unfolding named decided conclude
-returns c = by-number _ _ _ 0 (c .before .match .keys1) (c .idle .ensures) (omega arith)
+unfolding named decided conclude looks
+returns c = by-number _ _ _ 0 (c .before .match .keys1) (c .idle .ensures)
 
 returns-2 : tie.Need-returns-2
-unfolding named decided
-returns-2 c = by-number _ _ _ 1 (c .before .match .keys2) (c .load .ensures) (omega arith)
+unfolding named decided looks
+returns-2 c = by-number _ _ _ 1 (c .before .match .keys2) (c .load .ensures)
 
 returns-3 : tie.Need-returns-3
-unfolding named decided
-returns-3 c = by-number _ _ _ 2 (c .before .match .keys3) (c .store .ensures) (omega arith)
+unfolding named decided looks
+returns-3 c = by-number _ _ _ 2 (c .before .match .keys3) (c .store .ensures)
 
 returns-4 : tie.Need-returns-4
-unfolding named decided
-returns-4 c = by-number _ _ _ 3 (c .before .match .keys4) (c .derive .ensures) (omega arith)
+unfolding named decided looks
+returns-4 c = by-number _ _ _ 3 (c .before .match .keys4) (c .derive .ensures)
 
 returns-5 : tie.Need-returns-5
-unfolding named decided
-returns-5 c = by-number _ _ _ 4 (c .before .match .keys5) (c .delete .ensures) (omega arith)
+unfolding named decided looks
+returns-5 c = by-number _ _ _ 4 (c .before .match .keys5) (c .delete .ensures)
 
 returns-6 : tie.Need-returns-6
-unfolding named decided
-returns-6 c = by-number _ _ _ 5 (c .before .match .keys6) (c .revoke .ensures) (omega arith)
+unfolding named decided looks
+returns-6 c = by-number _ _ _ 5 (c .before .match .keys6) (c .revoke .ensures)
 
 returns-7 : tie.Need-returns-7
-unfolding named decided
-returns-7 c = by-number _ _ _ 6 (c .before .match .keys7) (c .ring .ensures) (omega arith)
+unfolding named decided looks
+returns-7 c = by-number _ _ _ 6 (c .before .match .keys7) (c .ring .ensures)
 
 returns-8 : tie.Need-returns-8
-unfolding named decided
-returns-8 c = by-number _ _ _ 7 (c .before .match .keys8) (c .hear .ensures) (omega arith)
+unfolding named decided looks
+returns-8 c = by-number _ _ _ 7 (c .before .match .keys8) (c .hear .ensures)
 
 returns-9 : tie.Need-returns-9
-unfolding named decided
-returns-9 c = by-number _ _ _ 8 (c .before .match .keys9) (c .send .ensures) (omega arith)
+unfolding named decided looks
+returns-9 c = by-number _ _ _ 8 (c .before .match .keys9) (c .send .ensures)
 
 returns-10 : tie.Need-returns-10
-unfolding named decided
-returns-10 c = by-number _ _ _ 9 (c .before .match .keys10) (c .receive .ensures) (omega arith)
+unfolding named decided looks
+returns-10 c = by-number _ _ _ 9 (c .before .match .keys10) (c .receive .ensures)
 
 returns-11 : tie.Need-returns-11
-unfolding named decided
-returns-11 c = by-number _ _ _ 10 (c .before .match .keys11) (c .look .ensures) (omega arith)
+unfolding named decided looks
+returns-11 c = by-number _ _ _ 10 (c .before .match .keys11) (c .look .ensures)
 
 returns-12 : tie.Need-returns-12
 returns-12 c = by-no-number _ _ _ (c .before .match .rest) (c .refused .ensures)

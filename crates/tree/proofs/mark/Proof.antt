@@ -2,6 +2,7 @@
 use native.Mathlib.Omega.{arith}
 use borrow.Author.Needs.{needs}
 use Rattle.tree.proofs.Marking.{marks-most, mark-past, mark-other, mark-already, mark-new}
+use Rattle.tree.proofs.Counting.{marking-past, marking-other, marking-already, marking-new}
 use Rattle.tree.proofs.mark.Statement.{statement}
 use Rattle.tree.proofs.mark.Tie as tie
 
@@ -30,16 +31,16 @@ same-length : tie.Need-same-length
 same-length c = search needs
 
 returns : tie.Need-returns
-returns c = (search needs, search mark-new)
+returns c = (search needs, search mark-new, search marking-new)
 
 returns-2 : tie.Need-returns-2
-returns-2 c = (search needs, search mark-already)
+returns-2 c = (search needs, search mark-already, search marking-already)
 
 returns-3 : tie.Need-returns-3
-returns-3 c = (search needs, search mark-other)
+returns-3 c = (search needs, search mark-other, search marking-other)
 
 returns-4 : tie.Need-returns-4
-returns-4 c = (search needs, search mark-past)
+returns-4 c = (search needs, search mark-past, search marking-past)
 
 pub mark-spec : {M : Type 1} → statement M
 mark-spec =

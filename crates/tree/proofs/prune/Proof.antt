@@ -1,6 +1,7 @@
 -- `tree::prune` meets its contract. Assumes nothing.
 use borrow.Author.Needs.{needs}
 use Rattle.tree.proofs.Marking.{blank}
+use Rattle.tree.proofs.Counting.{visits-found}
 use Rattle.tree.proofs.Pruning.{pruned-all, visits-all}
 use Rattle.tree.proofs.prune.Statement.{statement}
 use Rattle.tree.proofs.prune.Tie as tie
@@ -21,7 +22,7 @@ same-length : tie.Need-same-length
 same-length c = search needs
 
 returns : tie.Need-returns
-returns c = (search (needs, visits-all), search pruned-all)
+returns c = (search (needs, visits-all), search pruned-all, search visits-found)
 
 pub prune-spec : {M : Type 1} → statement M
 prune-spec =

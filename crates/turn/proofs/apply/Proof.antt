@@ -85,7 +85,7 @@ same-length-6 : tie.Need-same-length-6
 same-length-6 c = search needs
 
 returns-7 : tie.Need-returns-7
-returns-7 c = applied-on (c .before .before .before .before .before .e6 .given .1) (applied-prune (c .before .before .prune .ensures .0) (c .before .before .prune .ensures .1))
+returns-7 c = applied-on (c .before .before .before .before .before .e6 .given .1) (applied-prune (c .before .before .prune .ensures .0) (c .before .before .prune .ensures .1) (c .before .before .prune .ensures .2))
 
 enum-known-e-7 : tie.Need-enum-known-e-7
 enum-known-e-7 c = search needs

@@ -24,7 +24,7 @@ decide-requires c κs = (enough-of _ (c .before .before .before .before .enough 
 apply-requires : tie.Need-apply-requires
 apply-requires c κs =
     let d = c .before .before .before .decide .ensures in
-    (enough-of _ (c .before .before .before .before .before .before .before .before .enough .ensures) (not-false _ (c .before .before .before .before .before .before .before .if1 .left)), (apply-named _ _ _ (d .decision) (low _), apply-allowed _ _ _ (d .decision) (d .visits)))
+    (enough-of _ (c .before .before .before .before .before .before .before .before .enough .ensures) (not-false _ (c .before .before .before .before .before .before .before .if1 .left)), (apply-named _ _ _ (d .decision) (low _), apply-allowed _ _ _ (d .decision) (d .visits) (search needs)))
 
 move-on-requires : tie.Need-move-on-requires
 move-on-requires c κs = enough-kept (c .before .before .before .apply .ensures .stored) (enough-of _ (c .before .before .before .before .before .before .before .before .before .before .before .before .enough .ensures) (not-false _ (c .before .before .before .before .before .before .before .before .before .before .before .if1 .left)))

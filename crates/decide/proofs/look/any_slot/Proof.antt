@@ -4,6 +4,8 @@ use borrow.Author.Needs.{needs}
 use mathlib.Core.Path.{refl}
 use Rattle.decide.proofs.Checks.{checks, never}
 use Rattle.rules.specs.Turn.{anySlot}
+use Rattle.decide.specs.Visits.{seen}
+use Rattle.decide.proofs.Visits.{seen-no, seen-yes}
 use Rattle.decide.proofs.look.any_slot.Statement.{statement}
 use Rattle.decide.proofs.look.any_slot.Tie as tie
 
@@ -12,7 +14,7 @@ nothing-requires c κs = search needs
 
 returns : tie.Need-returns
 unfolding anySlot
-returns c = record { refusal = search checks; capability = never 2 refl; slot = search checks; visits = omega arith }
+returns c = record { refusal = search checks; capability = never 2 refl; slot = search checks; visits = search seen-no }
 
 mul-see : tie.Need-mul-see
 mul-see c = search needs
@@ -24,11 +26,11 @@ see-requires : tie.Need-see-requires
 see-requires c κs = search needs
 
 returns-2 : tie.Need-returns-2
-unfolding anySlot
+unfolding anySlot seen
 returns-2 c = search checks
 
 returns-3 : tie.Need-returns-3
-unfolding anySlot
+unfolding anySlot seen
 returns-3 c = search checks
 
 pub any-slot-spec : {M : Type 1} → statement M

@@ -5,6 +5,7 @@ use Rattle.rules.specs.Sizes.{slots}
 use mathlib.Core.Path.{refl}
 use borrow.Author.Needs.{needs}
 use Rattle.decide.proofs.Checks.{checks, never}
+use Rattle.decide.proofs.Visits.{along-no, along-no-grant, along-yes}
 use Rattle.decide.proofs.mail.along.Statement.{statement}
 use Rattle.decide.proofs.mail.along.Tie as tie
 
@@ -12,19 +13,19 @@ nothing-requires : tie.Need-nothing-requires
 nothing-requires c κs = search needs
 
 returns : tie.Need-returns
-returns c = record { refusal = search checks; capability = never 2 refl; visits = omega arith }
+returns c = record { refusal = search checks; capability = never 2 refl; visits = search along-no }
 
 nothing-requires-2 : tie.Need-nothing-requires-2
 nothing-requires-2 c κs = search needs
 
 returns-2 : tie.Need-returns-2
-returns-2 c = search checks
+returns-2 c = search (checks, along-no)
 
 nothing-requires-3 : tie.Need-nothing-requires-3
 nothing-requires-3 c κs = search needs
 
 returns-3 : tie.Need-returns-3
-returns-3 c = record { refusal = search checks depth 7; capability = never 5 refl; visits = omega arith }
+returns-3 c = record { refusal = search checks depth 7; capability = never 5 refl; visits = search along-no-grant }
 
 mul-see : tie.Need-mul-see
 mul-see c = search needs
@@ -39,7 +40,7 @@ nothing-requires-4 : tie.Need-nothing-requires-4
 nothing-requires-4 c κs = search needs
 
 returns-4 : tie.Need-returns-4
-returns-4 c = record { refusal = search checks; capability = never 3 refl; visits = omega arith }
+returns-4 c = record { refusal = search checks; capability = never 3 refl; visits = search along-yes }
 
 mul-copied : tie.Need-mul-copied
 mul-copied c = search needs
@@ -55,7 +56,7 @@ returns-5 c =
     record {
       refusal = search checks;
       capability = λ _. rw (lt-ltb _ slots (c .before .before .before .before .before .if1 .left), ← (c .before .before .before .see .ensures .0)) (c .copied .ensures);
-      visits = omega arith;
+      visits = search along-yes;
     }
 
 pub along-spec : {M : Type 1} → statement M

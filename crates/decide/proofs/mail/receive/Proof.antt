@@ -1,9 +1,10 @@
 -- `decide::mail::receive` meets its contract. Assumes nothing.
 use borrow.Author.Needs.{needs}
 use native.Mathlib.Omega.{arith}
-use mathlib.Core.Path.{refl}
+use mathlib.Core.Path.{_≡_, refl}
 use Rattle.rules.specs.Turn.{receive}
-use Rattle.decide.proofs.Checks.{checks, looked-up, is-done, is-refused, full-low}
+use Rattle.decide.proofs.Checks.{checks, looked-up, is-done, full-low}
+use Rattle.decide.proofs.Visits.{seen-most, receive-refused, receive-taken}
 use Rattle.decide.proofs.mail.receive.Statement.{statement}
 use Rattle.decide.proofs.mail.receive.Tie as tie
 
@@ -14,15 +15,13 @@ refused-requires : tie.Need-refused-requires
 refused-requires c κs = search needs
 
 returns : tie.Need-returns
-unfolding receive
-returns c = is-refused _ _ _ (c .refused .ensures) (search checks) (search checks) (omega arith)
+returns c = receive-refused (c .before .before .before .slot-for .ensures) _ refl (c .refused .ensures) (search checks) (search checks)
 
 refused-requires-2 : tie.Need-refused-requires-2
 refused-requires-2 c κs = search needs
 
 returns-2 : tie.Need-returns-2
-unfolding receive
-returns-2 c = is-refused _ _ _ (c .refused2 .ensures) refl (search checks) (omega arith)
+returns-2 c = receive-refused (c .before .before .before .before .slot-for .ensures) _ refl (c .refused2 .ensures) refl (search checks)
 
 message-requires : tie.Need-message-requires
 message-requires c κs = search needs
@@ -31,17 +30,17 @@ refused-requires-3 : tie.Need-refused-requires-3
 refused-requires-3 c κs = search needs
 
 returns-3 : tie.Need-returns-3
-unfolding receive
 returns-3 c =
     let k = c .before .before .before .before .before in
     let h = k .before .before .slot-for .ensures .capability (k .if1 .left) in
-    is-refused _ _ _ (c .refused3 .ensures) refl (search checks) (omega arith)
+    receive-refused (k .before .before .slot-for .ensures) _ refl (c .refused3 .ensures) refl (search checks)
 
 take-requires : tie.Need-take-requires
 take-requires c κs =
     let k = c .before .before .before .before in
     let s = k .before .before .before .before in
     let v = k .before .before .slot-for .ensures .visits in
+    let l = seen-most (s .args .x) in
     (s .pre .0, (s .pre .1, (full-low _ _ _ (c .if3 .left) (c .before .before .message .ensures), omega arith)))
 
 returns-4 : tie.Need-returns-4
@@ -52,7 +51,7 @@ returns-4 c =
     let z = looked-up _ _ _ _ _ (k .before .before .slot-for .ensures) (k .if1 .left) in
     is-done _ _ _ (search checks)
     (rw (← h, ← (c .before .before .before .message .ensures), ← (c .take .ensures .effect), ← (c .take .ensures .flag)))
-    (omega arith)
+    (let v = receive-taken (k .before .before .slot-for .ensures) refl (k .if1 .left) (search checks) (c .take .ensures) in omega arith)
 
 pub receive-spec : {M : Type 1} → statement M
 receive-spec =

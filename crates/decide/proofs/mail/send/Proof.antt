@@ -4,6 +4,7 @@ use mathlib.Core.Path.{refl, sym, _∙_}
 use borrow.Author.Needs.{needs}
 use Rattle.rules.specs.Turn.{send}
 use Rattle.decide.proofs.Checks.{checks, stands, refuses, goes-on, carried, is-refused, is-done}
+use Rattle.decide.proofs.Visits.{seen-most, send-refused, send-seen}
 use Rattle.decide.proofs.mail.send.Statement.{statement}
 use Rattle.decide.proofs.mail.send.Tie as tie
 
@@ -15,10 +16,10 @@ refused-requires c κs = search needs
 
 returns : tie.Need-returns
 unfolding send
-returns c = is-refused _ _ _ (c .refused .ensures) (search checks) (search checks) (omega arith)
+returns c = is-refused _ _ _ (c .refused .ensures) (search checks) (search checks) (search send-refused)
 
 along-requires : tie.Need-along-requires
-along-requires c κs = search needs
+along-requires c κs = (search needs, (search needs, omega (arith, seen-most (c .before .before .before .before .before .args .op .first))))
 
 refused-requires-2 : tie.Need-refused-requires-2
 refused-requires-2 c κs = search needs
@@ -29,7 +30,7 @@ returns-2 c =
     let k = c .before .before .before .before .before in
     is-refused _ _ _ (c .refused2 .ensures) (search checks)
     (stands _ _ _ _ (search checks) (carried (k .before .before .slot-for .ensures) (k .if1 .left) (c .before .before .before .along .ensures)))
-    (omega arith)
+    (search send-seen)
 
 message-requires : tie.Need-message-requires
 message-requires c κs = search needs
@@ -44,7 +45,7 @@ returns-3 c =
     let k = l .before .before .before .before in
     let h = k .before .before .slot-for .ensures .capability (k .if1 .left) in
     let z = carried (k .before .before .slot-for .ensures) (k .if1 .left) (l .before .before .along .ensures) in
-    is-refused _ _ _ (c .refused3 .ensures) refl (refuses _ _ _ (sym (l .if2 .left) ∙ z) (search checks)) (omega arith)
+    is-refused _ _ _ (c .refused3 .ensures) refl (refuses _ _ _ (sym (l .if2 .left) ∙ z) (search checks)) (search send-seen)
 
 written-requires : tie.Need-written-requires
 written-requires c κs = search needs
@@ -62,7 +63,7 @@ returns-4 c =
     let z = carried (k .before .before .slot-for .ensures) (k .if1 .left) (l .before .before .along .ensures) in
     is-done _ _ _ (goes-on _ _ _ _ (sym (l .if2 .left) ∙ z) (search checks))
     (rw (← h, ← i, ← (c .before .written .ensures)) (c .done .ensures .0))
-    (omega arith)
+    (c .done .ensures .1 ∙ search send-seen)
 
 pub send-spec : {M : Type 1} → statement M
 send-spec =

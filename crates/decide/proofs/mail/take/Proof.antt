@@ -1,7 +1,10 @@
 -- `decide::mail::take` meets its contract. Assumes nothing.
+use mathlib.Core.Path.{_∙_}
 use Rattle.rules.specs.Turn.{moves}
 use Rattle.decide.proofs.Checks.{checks}
+use native.Mathlib.Omega.{arith}
 use borrow.Author.Needs.{needs}
+use Rattle.decide.proofs.Visits.{taking-no, taking-none, taking-yes}
 use Rattle.decide.proofs.mail.take.Statement.{statement}
 use Rattle.decide.proofs.mail.take.Tie as tie
 
@@ -10,7 +13,7 @@ taking-requires c κs = search needs
 
 returns : tie.Need-returns
 unfolding moves
-returns c = search checks
+returns c = record { effect = search checks; flag = search checks; visits = c .taking .ensures .2 ∙ search (taking-no, arith) }
 
 add-see : tie.Need-add-see
 add-see c = search needs
@@ -23,7 +26,7 @@ taking-requires-2 c κs = search needs
 
 returns-2 : tie.Need-returns-2
 unfolding moves
-returns-2 c = search checks
+returns-2 c = record { effect = search checks; flag = search checks; visits = c .taking2 .ensures .2 ∙ search taking-none }
 
 mul-see : tie.Need-mul-see
 mul-see c = search needs
@@ -39,7 +42,7 @@ taking-requires-3 c κs = search needs
 
 returns-3 : tie.Need-returns-3
 unfolding moves
-returns-3 c = search checks
+returns-3 c = record { effect = search checks; flag = search checks; visits = c .taking3 .ensures .2 ∙ search taking-yes }
 
 mul-t12 : tie.Need-mul-t12
 mul-t12 c = search needs
@@ -52,7 +55,7 @@ taking-requires-4 c κs = search needs
 
 returns-4 : tie.Need-returns-4
 unfolding moves
-returns-4 c = search checks
+returns-4 c = record { effect = search checks; flag = search checks; visits = c .taking4 .ensures .2 ∙ search taking-yes }
 
 pub take-spec : {M : Type 1} → statement M
 take-spec =
