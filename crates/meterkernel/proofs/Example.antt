@@ -16,12 +16,12 @@ use Rattle.rules.specs.declared.Operation.{Operation}
 use Rattle.rules.specs.declared.Answer.{Answer}
 use Rattle.rules.proofs.Worked.{rows-played, closed-exactly}
 use Rattle.layout.specs.Layout.{stateOf}
-use Rattle.turn.specs.Turned.{Exact}
+use Rattle.turn.specs.Turned.{Good, Exact}
 use Rattle.boot.specs.Booted.{Booted}
 use Rattle.boot.proofs.Loading.{worked-bytes, worked-right, worked-some}
 use Rattle.meterkernel.specs.Demands.{heard, Runs}
 use Rattle.meterkernel.specs.Example.{ExampleBoots, rowNo, ExampleRun, metering, MeteringClosed, MeteringHearsNobody}
-use Rattle.meterkernel.proofs.Histories.{accepted, booted-good, turn-exact}
+use Rattle.meterkernel.proofs.Histories.{accepted, booted-good, turn-visits, turn-exact}
 use Rattle.meterkernel.proofs.Running.{so-far}
 use Rattle.meterkernel.proofs.Demands.{partitions-dont-hear}
 
@@ -59,10 +59,13 @@ example-run P m who x r f n h =
     let (w, y) =
     shown rows (λ k. stateOf (m k)) (λ k. P (who k) (heard who x k (who k)))
     (subst (λ s. played s (operations rows) ≡ rows) (sym (accepted (r .booted) .loaded .state)) rows-played) f (λ k l. taken k l .state) n h in
-    (r .asked n h .long (so-far worked-bytes r n (omega arith) .good .enough) ∙ w, taken n h .answered ∙ y)
+    (r .asked n h .long (good n h .enough) ∙ w, taken n h .answered ∙ y)
   where
-    taken : (k : ℕ) → k < 22 → Exact (m k) (P (who k) (heard who x k (who k))) (m (suc k)) (x k)
-    taken k l = turn-exact (so-far worked-bytes r k (omega arith) .good) (r .turns k l)
+    good : (k : ℕ) → k < 22 → Good (m k)
+    good k l = so-far worked-bytes r k (omega arith) .good
+
+    taken : (k : ℕ) (l : k < 22) → Exact (m k) (P (who k) (heard who x k (who k))) (m (suc k)) (x k) (turn-visits (good k l) (r .turns k l))
+    taken k l = turn-exact (good k l) (r .turns k l)
 
 pub metering-closed : MeteringClosed
 metering-closed = closed-exactly metering .1 (List·Memᴰ·tail (List·Memᴰ·head refl))

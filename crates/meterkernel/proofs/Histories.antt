@@ -49,10 +49,12 @@ pub booted-good : {b m n : List ℕ} → Bytes b → Booted b m 0 n → Good n
 booted-good {b} {m} {n} y h = let a = accepted h in boot-good b m n y (a .right) (a .long) (a .loaded)
 
 -- a turn on good memory
-pub turn-exact : {m n : List ℕ} {o : Operation} {x : Answer} → Good m → Turn m o n x → Exact m o n x
-turn-exact {m} {n} g t =
-    let (v, u) = t .called .turned (t .words) (t .room) (g .enough) in
-    subst₂ (λ p y. Exact m p n y) (t .asked) (t .told) (u .exact g)
+pub turn-visits : {m n : List ℕ} {o : Operation} {x : Answer} → Good m → Turn m o n x → ℕ
+turn-visits g t = t .called .turned (t .words) (t .room) (g .enough) .0
+
+pub turn-exact : {m n : List ℕ} {o : Operation} {x : Answer} (g : Good m) (t : Turn m o n x) → Exact m o n x (turn-visits g t)
+unfolding turn-visits
+turn-exact {m} {n} g t = subst₂ (λ p y. Exact m p n y (turn-visits g t)) (t .asked) (t .told) (t .called .turned (t .words) (t .room) (g .enough) .1 .exact g)
 
 -- what is known
 pub record Known (b m : List ℕ) (l : Ledger) : Type 0 where

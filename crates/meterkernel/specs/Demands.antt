@@ -19,7 +19,8 @@ use Rattle.rules.specs.declared.Operation.{Operation}
 use Rattle.rules.specs.declared.Answer.{Answer}
 use Rattle.layout.specs.Layout.{stateOf, positionAt, need, wordsFor}
 use Rattle.layout.specs.Stored.{Elsewhere}
-use Rattle.turn.specs.Turned.{visitsFor, Turned, Whose}
+use Rattle.turn.specs.Visits.{visitsFor}
+use Rattle.turn.specs.Turned.{Turned, Whose}
 use Rattle.boot.specs.Booted.{Booted}
 use Rattle.flow.specs.Answer.{Flows}
 use Rattle.meterkernel.specs.Entries.{operationWords, answerWords, operationIn, answerIn, TooShort, TurnCalled}
