@@ -1,0 +1,55 @@
+-- Laws of the tests for refusal 27, one number at a time. Assumes nothing.
+use mathlib.Core.Path.{_≡_, refl, sym, ap, _∙_}
+use mathlib.Core.Bool.{Bool, true, false, not, _&&_}
+use mathlib.Core.List.{List}
+use mathlib.Core.Logic.{⊎-elim}
+use Prim.Native.Nat.{ℕ, zero, suc, _+_, _≤_, _<_}
+use native.Mathlib.Numerals.{add-one}
+use native.Mathlib.Omega.{arith}
+use lib.Dec.{eqb}
+use lib.ListN.{length}
+use borrow.Author.Tests.{eq-eqb, ne-eqb}
+use Rattle.rules.specs.State.{State}
+use Rattle.rules.specs.Turn.{present, full}
+use Rattle.rules.specs.Image.{allBelow}
+use Rattle.rules.specs.declared.Message.{Message}
+use Rattle.rules.proofs.Laws.{decided-by, not-both}
+use Rattle.rules.proofs.Certificate.{below-at}
+use Rattle.write.specs.Laid.{empty}
+
+module _ (f : ℕ → Bool) where
+  -- no number is below 0
+  pub below-none : allBelow 0 f ≡ true
+  unfolding allBelow
+  below-none = refl
+
+  -- one number more
+  pub below-more : (i : ℕ) → allBelow i f ≡ true → f i ≡ true → allBelow (i + 1) f ≡ true
+  unfolding allBelow
+  below-more i h t = rw (add-one i, t, h)
+
+  -- a number at which the test fails
+  pub below-fails : (i n : ℕ) → i < n → f i ≡ false → false ≡ allBelow n f
+  below-fails i n l t = ⊎-elim (λ h. absurd (not-both (below-at f n h i l) t)) sym (decided-by (allBelow n f))
+
+  -- no number is left
+  pub below-end : (i n : ℕ) → i ≤ n → n ≤ i → allBelow i f ≡ true → true ≡ allBelow n f
+  below-end i n h g t =
+      let e : i ≡ n = omega arith in
+      sym (rw e at t)
+
+-- a mailbox of which g was seen
+pub mail-there : (s : State) (m : ℕ) (g : Message) → g ≡ s .message m → (g .full ≡ 0 → ⊥) → empty s m ≡ false
+unfolding present
+mail-there s m g e n = rw (← e, ne-eqb (g .full) 0 n)
+
+pub mail-none : (s : State) (m : ℕ) (g : Message) → g ≡ s .message m → g .full ≡ 0 → empty s m ≡ true
+unfolding present
+mail-none s m g e z = rw (← e, z)
+
+-- a word or a bell of which x was seen
+pub zero-there : (x y : ℕ) → x ≡ y → (x ≡ 0 → ⊥) → eqb y 0 ≡ false
+zero-there x y e n = rw (← e) (ne-eqb x 0 n)
+
+pub zero-none : (x y : ℕ) → x ≡ y → x ≡ 0 → eqb y 0 ≡ true
+zero-none x y e z = eq-eqb y 0 (sym e ∙ z)

@@ -1,0 +1,11 @@
+use Rattle.write.proofs.blank.in_range.Statement.{statement}
+use Rattle.write.proofs.blank.in_range.Tie as tie
+use Rattle.write.proofs.blank.in_range.Reads as reads
+use Rattle.write.proofs.blank.in_range.Lts as lts
+
+-- src/blank.rt:19:1
+returns : tie.Need-returns
+returns c = ?
+
+pub in-range-spec : {M : Type 1} → statement M
+in-range-spec = tie.close (tie.spec returns)

@@ -1,0 +1,30 @@
+use borrow.Author.Needs.{needs}
+use Rattle.write.proofs.entry_of.Statement.{statement}
+use Rattle.write.proofs.entry_of.Tie as tie
+use Rattle.write.proofs.entry_of.Reads as reads
+use Rattle.write.proofs.entry_of.Lts as lts
+use Rattle.layout.proofs.see.Reads as see-reads
+use Rattle.write.proofs.put.entry.Reads as entry-reads
+
+-- src/lib.rt:94:9
+see-requires : tie.Need-see-requires
+see-requires c κs = search needs
+
+-- src/lib.rt:97:9
+returns : tie.Need-returns
+returns c = ?
+
+-- src/lib.rt:99:5
+entry-requires : tie.Need-entry-requires
+entry-requires c κs = ?
+
+-- src/lib.rt:90:1
+same-length : tie.Need-same-length
+same-length c = search needs
+
+-- src/lib.rt:90:1
+returns-2 : tie.Need-returns-2
+returns-2 c = ?
+
+pub entry-of-spec : {M : Type 1} → statement M
+entry-of-spec = tie.close (tie.spec see-requires returns entry-requires same-length returns-2)
