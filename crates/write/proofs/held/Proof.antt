@@ -1,3 +1,4 @@
+use Rattle.write.proofs.Entering.{held-none, held-some}
 use borrow.Author.Needs.{needs}
 use Rattle.write.proofs.held.Statement.{statement}
 use Rattle.write.proofs.held.Tie as tie
@@ -11,11 +12,11 @@ see-requires c κs = search needs
 
 -- src/lib.rt:48:9
 returns : tie.Need-returns
-returns c = ?
+returns c = held-none _ _ _ (c .before .before .before .see .ensures .0) (c .if1 .taken)
 
 -- src/lib.rt:41:1
 returns-2 : tie.Need-returns-2
-returns-2 c = ?
+returns-2 c = held-some _ _ _ (c .before .before .before .see .ensures .0) (c .if1 .left)
 
 pub held-spec : {M : Type 1} → statement M
 held-spec = tie.close (tie.spec see-requires returns returns-2)

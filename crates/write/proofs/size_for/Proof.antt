@@ -1,3 +1,5 @@
+use mathlib.Core.Path.{refl}
+use Rattle.rules.specs.Image.{padded, entriesAt, lengthFor}
 use borrow.Author.Needs.{needs}
 use Rattle.write.proofs.size_for.Statement.{statement}
 use Rattle.write.proofs.size_for.Tie as tie
@@ -26,7 +28,8 @@ add-result-3 c = search needs
 
 -- src/lib.rt:68:1
 returns : tie.Need-returns
-returns c = ?
+unfolding lengthFor entriesAt padded
+returns c = refl
 
 pub size-for-spec : {M : Type 1} → statement M
 size-for-spec =

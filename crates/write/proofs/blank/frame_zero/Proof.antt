@@ -1,3 +1,12 @@
+use Rattle.write.proofs.Tests.{below-none, below-more, below-fails, below-end, zero-there, zero-none}
+use mathlib.Core.Path.{_≡_}
+use mathlib.Core.Bool.{true}
+use Prim.Native.Nat.{_≤_, _-_}
+use borrow.Author.Needs.{needs}
+use Rattle.rules.specs.Sizes.{frameWords}
+use Rattle.rules.specs.Image.{allBelow}
+use Rattle.layout.specs.Layout.{stateOf}
+use Rattle.write.specs.Laid.{zeroWord}
 use Rattle.write.proofs.blank.frame_zero.Statement.{statement}
 use Rattle.write.proofs.blank.frame_zero.Tie as tie
 use Rattle.write.proofs.blank.frame_zero.Reads as reads
@@ -5,38 +14,38 @@ use Rattle.write.proofs.blank.frame_zero.Lts as lts
 use Rattle.layout.proofs.word.Reads as word-reads
 
 abbrev Inv-loop : tie.InvT-loop
-Inv-loop mem f w₀ w = ?
+Inv-loop mem f w₀ w = (w ≤ frameWords) × (allBelow w (zeroWord (stateOf mem) f) ≡ true)
 
 abbrev μ-loop : tie.MeasureT-loop
-μ-loop mem f w₀ w = ?
+μ-loop mem f w₀ w = frameWords - w
 
 -- src/blank.rt:49:5
 loop-holds : tie.Need-loop-holds Inv-loop μ-loop
-loop-holds c = ?
+loop-holds c = (search needs, below-none _)
 
 -- src/blank.rt:50:12
 word-requires : tie.Need-word-requires Inv-loop μ-loop
-word-requires c κs = ?
+word-requires c κs = search needs
 
 -- src/blank.rt:51:13
 returns : tie.Need-returns Inv-loop μ-loop
-returns c = ?
+returns c = below-fails _ _ _ (c .before .before .loop-test .taken) (zero-there _ _ (c .before .word .ensures) (c .if1 .taken))
 
 -- src/blank.rt:53:9
 add-w : tie.Need-add-w Inv-loop μ-loop
-add-w c = ?
+add-w c = search needs
 
 -- src/blank.rt:49:5
 loop-less : tie.Need-loop-less Inv-loop μ-loop
-loop-less c = ?
+loop-less c = search needs
 
 -- src/blank.rt:49:5
 loop-again : tie.Need-loop-again Inv-loop μ-loop
-loop-again c = ?
+loop-again c = (search needs, below-more _ _ (c .before .before .before .loop .inv .1) (zero-none _ _ (c .before .word .ensures) (c .if1 .left)))
 
 -- src/blank.rt:44:1
 returns-2 : tie.Need-returns-2 Inv-loop μ-loop
-returns-2 c = ?
+returns-2 c = below-end _ _ _ (c .before .loop .inv .0) (c .loop-test .left) (c .before .loop .inv .1)
 
 pub frame-zero-spec : {M : Type 1} → statement M
 frame-zero-spec =

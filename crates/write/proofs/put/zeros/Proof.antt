@@ -35,7 +35,7 @@ loop-less c = search needs
 
 -- src/put.rt:90:5
 loop-again : tie.Need-loop-again Inv-loop μ-loop
-loop-again c = (search needs, search needs, zeros-more _ (c .before .before .before .before .before .loop .inv .2) (c .before .before .byte .ensures))
+loop-again c = (search needs, search needs, zeros-more (c .before .before .before .before .before .loop .k) (c .before .before .before .before .before .loop .inv .2) (c .before .before .byte .ensures))
 
 -- src/put.rt:84:1
 same-length : tie.Need-same-length Inv-loop μ-loop
