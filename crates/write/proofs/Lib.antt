@@ -1,3 +1,4 @@
 pub mod Laying
 pub mod Entering
 pub mod Tests
+pub mod Filling

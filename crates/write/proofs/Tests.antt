@@ -9,13 +9,11 @@ use native.Mathlib.Omega.{arith}
 use lib.Dec.{eqb}
 use lib.ListN.{length}
 use borrow.Author.Tests.{eq-eqb, ne-eqb}
-use Rattle.rules.specs.State.{State}
 use Rattle.rules.specs.Turn.{present, full}
 use Rattle.rules.specs.Image.{allBelow}
 use Rattle.rules.specs.declared.Message.{Message}
 use Rattle.rules.proofs.Laws.{decided-by, not-both}
 use Rattle.rules.proofs.Certificate.{below-at}
-use Rattle.write.specs.Laid.{empty}
 
 module _ (f : ℕ → Bool) where
   -- no number is below 0
@@ -39,13 +37,13 @@ module _ (f : ℕ → Bool) where
       sym (rw e at t)
 
 -- a mailbox of which g was seen
-pub mail-there : (s : State) (m : ℕ) (g : Message) → g ≡ s .message m → (g .full ≡ 0 → ⊥) → empty s m ≡ false
+pub mail-there : (g h : Message) → g ≡ h → (g .full ≡ 0 → ⊥) → not (full h) ≡ false
 unfolding present
-mail-there s m g e n = rw (← e, ne-eqb (g .full) 0 n)
+mail-there g h e n = rw (← e, ne-eqb (g .full) 0 n)
 
-pub mail-none : (s : State) (m : ℕ) (g : Message) → g ≡ s .message m → g .full ≡ 0 → empty s m ≡ true
+pub mail-none : (g h : Message) → g ≡ h → g .full ≡ 0 → not (full h) ≡ true
 unfolding present
-mail-none s m g e z = rw (← e, z)
+mail-none g h e z = rw (← e, z)
 
 -- a word or a bell of which x was seen
 pub zero-there : (x y : ℕ) → x ≡ y → (x ≡ 0 → ⊥) → eqb y 0 ≡ false

@@ -29,7 +29,7 @@ message-requires c κs = search needs
 
 -- src/blank.rt:36:13
 returns : tie.Need-returns Inv-loop μ-loop
-returns c = below-fails _ _ _ (c .before .before .before .loop-test .taken) (mail-there _ _ _ (c .before .before .message .ensures) (c .if1 .taken))
+returns c = below-fails _ _ _ (c .before .before .before .loop-test .taken) (mail-there _ _ (c .before .before .message .ensures) (c .if1 .taken))
 
 -- src/blank.rt:38:9
 add-i : tie.Need-add-i Inv-loop μ-loop
@@ -41,7 +41,7 @@ loop-less c = search needs
 
 -- src/blank.rt:33:5
 loop-again : tie.Need-loop-again Inv-loop μ-loop
-loop-again c = (search needs, below-more _ _ (c .before .before .before .before .loop .inv .1) (mail-none _ _ _ (c .before .before .message .ensures) (c .if1 .left)))
+loop-again c = (search needs, below-more _ _ (c .before .before .before .before .loop .inv .1) (mail-none _ _ (c .before .before .message .ensures) (c .if1 .left)))
 
 -- src/blank.rt:28:1
 returns-2 : tie.Need-returns-2 Inv-loop μ-loop
