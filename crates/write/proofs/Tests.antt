@@ -9,11 +9,17 @@ use native.Mathlib.Omega.{arith}
 use lib.Dec.{eqb}
 use lib.ListN.{length}
 use borrow.Author.Tests.{eq-eqb, ne-eqb}
+use Rattle.rules.specs.Sizes.{domainsMost, turnsMost, framesMost, mailboxes, bells}
+use Rattle.rules.specs.State.{State}
 use Rattle.rules.specs.Turn.{present, full}
-use Rattle.rules.specs.Image.{allBelow}
+use Rattle.rules.specs.Image.{between, allBelow, writable}
 use Rattle.rules.specs.declared.Message.{Message}
 use Rattle.rules.proofs.Laws.{decided-by, not-both}
 use Rattle.rules.proofs.Certificate.{below-at}
+use Rattle.layout.specs.Layout.{Headed}
+use Rattle.layout.specs.declared.Head.{Head}
+use Rattle.write.specs.Written.{sized}
+use Rattle.write.specs.Laid.{empty, zeroFrame, zeroBell}
 
 module _ (f : ℕ → Bool) where
   -- no number is below 0
@@ -51,3 +57,18 @@ zero-there x y e n = rw (← e) (ne-eqb x 0 n)
 
 pub zero-none : (x y : ℕ) → x ≡ y → x ≡ 0 → eqb y 0 ≡ true
 zero-none x y e z = eq-eqb y 0 (sym e ∙ z)
+
+-- ---- the tests together
+
+module _ (s : State) (h : Head) (e : Headed s h) where
+  -- the test of the sizes, of the head that was read
+  sized-law : {t : Bool} → t ≡ (between 1 domainsMost (h .domains) && between 1 turnsMost (h .turns) && between 1 framesMost (h .frames)) → t ≡ sized s
+  unfolding sized
+  sized-law f = f ∙ rw (e .domains, e .turns, e .frames)
+
+  -- what each test said
+  pub told : (a m w b : Bool) → a ≡ (between 1 domainsMost (h .domains) && between 1 turnsMost (h .turns) && between 1 framesMost (h .frames))
+      → m ≡ allBelow mailboxes (empty s) → w ≡ allBelow (h .frames) (zeroFrame s) → b ≡ allBelow bells (zeroBell s)
+      → (a && (m && w && b && eqb (h .position) 0)) ≡ (sized s && writable s)
+  unfolding writable
+  told a m w b f g k l = rw (sized-law f, g, k, l, e .frames, e .position)
