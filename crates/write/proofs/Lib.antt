@@ -2,3 +2,4 @@ pub mod Laying
 pub mod Entering
 pub mod Tests
 pub mod Filling
+pub mod Writing

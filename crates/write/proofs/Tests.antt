@@ -58,17 +58,29 @@ zero-there x y e n = rw (← e) (ne-eqb x 0 n)
 pub zero-none : (x y : ℕ) → x ≡ y → x ≡ 0 → eqb y 0 ≡ true
 zero-none x y e z = eq-eqb y 0 (sym e ∙ z)
 
--- ---- the tests together
+-- ---- the tests together, of which the first that failed, or the last, is known
 
-module _ (s : State) (h : Head) (e : Headed s h) where
-  -- the test of the sizes, of the head that was read
-  sized-law : {t : Bool} → t ≡ (between 1 domainsMost (h .domains) && between 1 turnsMost (h .turns) && between 1 framesMost (h .frames)) → t ≡ sized s
-  unfolding sized
-  sized-law f = f ∙ rw (e .domains, e .turns, e .frames)
-
-  -- what each test said
-  pub told : (a m w b : Bool) → a ≡ (between 1 domainsMost (h .domains) && between 1 turnsMost (h .turns) && between 1 framesMost (h .frames))
-      → m ≡ allBelow mailboxes (empty s) → w ≡ allBelow (h .frames) (zeroFrame s) → b ≡ allBelow bells (zeroBell s)
+module _ {s : State} {h : Head} (e : Headed s h) {a : Bool}
+    (f : a ≡ (between 1 domainsMost (h .domains) && between 1 turnsMost (h .turns) && between 1 framesMost (h .frames))) where
+  told : (m w b : Bool) → m ≡ allBelow mailboxes (empty s) → w ≡ allBelow (h .frames) (zeroFrame s) → b ≡ allBelow bells (zeroBell s)
       → (a && (m && w && b && eqb (h .position) 0)) ≡ (sized s && writable s)
-  unfolding writable
-  told a m w b f g k l = rw (sized-law f, g, k, l, e .frames, e .position)
+  unfolding sized writable
+  told m w b g k l = rw (f, g, k, l, e .domains, e .turns, e .frames, e .position)
+
+  pub range-fails : a ≡ false → false ≡ (sized s && writable s)
+  range-fails z = sym (rw z at (told _ _ _ refl refl refl))
+
+  module _ (t : a ≡ true) {m : Bool} (g : m ≡ allBelow mailboxes (empty s)) where
+    pub mail-fails : m ≡ false → false ≡ (sized s && writable s)
+    mail-fails z = sym (rw (t, z) at (told m _ _ g refl refl))
+
+    module _ (u : m ≡ true) {w : Bool} (k : w ≡ allBelow (h .frames) (zeroFrame s)) where
+      pub words-fail : w ≡ false → false ≡ (sized s && writable s)
+      words-fail z = sym (rw (t, u, z) at (told m w _ g k refl))
+
+      module _ (v : w ≡ true) {b : Bool} (l : b ≡ allBelow bells (zeroBell s)) where
+        pub bells-fail : b ≡ false → false ≡ (sized s && writable s)
+        bells-fail z = sym (rw (t, u, v, z) at (told m w b g k l))
+
+        pub position-tells : b ≡ true → eqb (h .position) 0 ≡ (sized s && writable s)
+        position-tells z = rw (t, u, v, z) at (told m w b g k l)

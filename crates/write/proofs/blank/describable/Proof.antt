@@ -1,3 +1,5 @@
+use borrow.Author.Tests.{not-true, not-false}
+use Rattle.write.proofs.Tests.{range-fails, mail-fails, words-fail, bells-fail, position-tells}
 use borrow.Author.Needs.{needs}
 use Rattle.write.proofs.blank.describable.Statement.{statement}
 use Rattle.write.proofs.blank.describable.Tie as tie
@@ -19,7 +21,7 @@ in-range-requires c κs = search needs
 
 -- src/blank.rt:95:9
 returns : tie.Need-returns
-returns c = ?
+returns c = range-fails (c .before .before .head-of .ensures) (c .before .in-range .ensures) (not-true _ (c .if1 .taken))
 
 -- src/blank.rt:97:9
 mailboxes-empty-requires : tie.Need-mailboxes-empty-requires
@@ -27,7 +29,7 @@ mailboxes-empty-requires c κs = search needs
 
 -- src/blank.rt:98:9
 returns-2 : tie.Need-returns-2
-returns-2 c = ?
+returns-2 c = mail-fails (c .before .before .before .before .head-of .ensures) (c .before .before .before .in-range .ensures) (not-false _ (c .before .before .if1 .left)) (c .before .mailboxes-empty .ensures) (not-true _ (c .if2 .taken))
 
 -- src/blank.rt:100:9
 frames-zero-requires : tie.Need-frames-zero-requires
@@ -35,7 +37,7 @@ frames-zero-requires c κs = search needs
 
 -- src/blank.rt:101:9
 returns-3 : tie.Need-returns-3
-returns-3 c = ?
+returns-3 c = words-fail (c .before .before .before .before .before .before .head-of .ensures) (c .before .before .before .before .before .in-range .ensures) (not-false _ (c .before .before .before .before .if1 .left)) (c .before .before .before .mailboxes-empty .ensures) (not-false _ (c .before .before .if2 .left)) (c .before .frames-zero .ensures) (not-true _ (c .if3 .taken))
 
 -- src/blank.rt:103:9
 bells-zero-requires : tie.Need-bells-zero-requires
@@ -43,11 +45,11 @@ bells-zero-requires c κs = search needs
 
 -- src/blank.rt:104:9
 returns-4 : tie.Need-returns-4
-returns-4 c = ?
+returns-4 c = bells-fail (c .before .before .before .before .before .before .before .before .head-of .ensures) (c .before .before .before .before .before .before .before .in-range .ensures) (not-false _ (c .before .before .before .before .before .before .if1 .left)) (c .before .before .before .before .before .mailboxes-empty .ensures) (not-false _ (c .before .before .before .before .if2 .left)) (c .before .before .before .frames-zero .ensures) (not-false _ (c .before .before .if3 .left)) (c .before .bells-zero .ensures) (not-true _ (c .if4 .taken))
 
 -- src/blank.rt:89:1
 returns-5 : tie.Need-returns-5
-returns-5 c = ?
+returns-5 c = position-tells (c .before .before .before .before .before .before .before .before .before .head-of .ensures) (c .before .before .before .before .before .before .before .before .in-range .ensures) (not-false _ (c .before .before .before .before .before .before .before .if1 .left)) (c .before .before .before .before .before .before .mailboxes-empty .ensures) (not-false _ (c .before .before .before .before .before .if2 .left)) (c .before .before .before .before .frames-zero .ensures) (not-false _ (c .before .before .before .if3 .left)) (c .before .before .bells-zero .ensures) (not-false _ (c .before .if4 .left))
 
 pub describable-spec : {M : Type 1} → statement M
 describable-spec =
