@@ -169,10 +169,10 @@ bytes-written s f =
     let r = f .frames in
     let most = occupied-most (s .capability) (slot (s .domains) 0) 0 in
     let whole : Small (bytesFor s) =
-        small-pair {a = s .domains} {b = length (s .turns)} (omega arith) (omega arith)
-        and small-two (length (occupied (s .capability) (slot (s .domains) 0) 0)) (omega arith) and small-two (s .frames) (omega arith) and small-zeros 2
-        and small-turns s f and small-zeros (padded (length (s .turns)) - length (s .turns))
-        and small-entries (s .capability) (s .frames) (slot (s .domains) 0) 0 (omega arith) (r .1) (f .capability) in
+    small-pair {a = s .domains} {b = length (s .turns)} (omega arith) (omega arith)
+    and small-two (length (occupied (s .capability) (slot (s .domains) 0) 0)) (omega arith) and small-two (s .frames) (omega arith) and small-zeros 2
+    and small-turns s f and small-zeros (padded (length (s .turns)) - length (s .turns))
+    and small-entries (s .capability) (s .frames) (slot (s .domains) 0) 0 (omega arith) (r .1) (f .capability) in
     whole .each
 
 -- ---- what stands in the buffer

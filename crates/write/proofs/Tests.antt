@@ -68,19 +68,19 @@ module _ {s : State} {h : Head} (e : Headed s h) {a : Bool}
   told m w b g k l = rw (f, g, k, l, e .domains, e .turns, e .frames, e .position)
 
   pub range-fails : a ≡ false → false ≡ (sized s && writable s)
-  range-fails z = sym (rw z at (told _ _ _ refl refl refl))
+  range-fails z = rw z at (told _ _ _ refl refl refl)
 
   module _ (t : a ≡ true) {m : Bool} (g : m ≡ allBelow mailboxes (empty s)) where
     pub mail-fails : m ≡ false → false ≡ (sized s && writable s)
-    mail-fails z = sym (rw (t, z) at (told m _ _ g refl refl))
+    mail-fails z = rw (t, z) at (told m _ _ g refl refl)
 
     module _ (u : m ≡ true) {w : Bool} (k : w ≡ allBelow (h .frames) (zeroFrame s)) where
       pub words-fail : w ≡ false → false ≡ (sized s && writable s)
-      words-fail z = sym (rw (t, u, z) at (told m w _ g k refl))
+      words-fail z = rw (t, u, z) at (told m w _ g k refl)
 
       module _ (v : w ≡ true) {b : Bool} (l : b ≡ allBelow bells (zeroBell s)) where
         pub bells-fail : b ≡ false → false ≡ (sized s && writable s)
-        bells-fail z = sym (rw (t, u, v, z) at (told m w b g k l))
+        bells-fail z = rw (t, u, v, z) at (told m w b g k l)
 
         pub position-tells : b ≡ true → eqb (h .position) 0 ≡ (sized s && writable s)
         position-tells z = rw (t, u, v, z) at (told m w b g k l)

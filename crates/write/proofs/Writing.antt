@@ -6,7 +6,7 @@ use Prim.Native.Nat.{ℕ, _*_, _≤_, _<_}
 use native.Mathlib.Omega.{arith}
 use lib.Dec.{leb}
 use lib.ListN.{length, getD, take}
-use borrow.Author.Tests.{leb-true, leb-false, le-leb}
+use borrow.Author.Tests.{leb-false, le-leb}
 use Rattle.rules.specs.Sizes.{slots, domainsMost, turnsMost, framesMost}
 use Rattle.rules.specs.State.{State, slot, Formed}
 use Rattle.rules.specs.Image.{between, lengthFor, occupied, bytesFor, writable, image, unwritable, write}
@@ -14,6 +14,7 @@ use Rattle.rules.proofs.Laws.{both, not-both}
 use Rattle.layout.specs.Layout.{stateOf, need, Enough, Headed}
 use Rattle.layout.specs.declared.Head.{Head}
 use Rattle.turn.specs.Turned.{Good}
+use Rattle.turn.proofs.Turning.{enough-of}
 use Rattle.write.specs.Written.{sized, Wrote}
 use Rattle.write.specs.Laid.{Laid}
 use Rattle.write.proofs.Filling.{slots-of, size-law, bytes-written, laid-front, laid-behind}
@@ -46,6 +47,11 @@ sized-formed s f =
     let (g, h) = f .frames in
     rw (le-leb _ _ a, le-leb _ _ b, le-leb _ _ c, le-leb _ _ d, le-leb _ _ g, le-leb _ _ h)
 
+-- as many entries as the rules say
+pub count-is : (m : List ℕ) {h : Head} {n : ℕ} → Headed (stateOf m) h → n ≡ length (occupied (stateOf m .capability) (h .domains * slots) 0)
+    → n ≡ length (occupied (stateOf m .capability) (slot (stateOf m .domains) 0) 0)
+count-is m k o = o ∙ ap length (slots-of (stateOf m .capability) _ _ (k .domains))
+
 -- ---- each way
 
 -- 29
@@ -64,13 +70,13 @@ wrote-short {m} {b} e z =
       written = λ g. absurd (let w = g .enough in omega arith);
     }
 
-module _ {m b : List ℕ} {t : Bool} (e : t ≡ leb (need m) (length m)) (y : t ≡ true) {u : Bool} (f : u ≡ (sized (stateOf m) && writable (stateOf m))) where
-  pub long-enough : Enough m
-  long-enough = leb-true (need m) (length m) (sym e ∙ y)
+module _ (m : List ℕ) {t : Bool} (e : t ≡ leb (need m) (length m)) (y : t ≡ true) {u : Bool} (f : u ≡ (sized (stateOf m) && writable (stateOf m))) where
+  long-enough : Enough m
+  long-enough = enough-of m e y
 
   -- 27
-  pub wrote-unwritable : u ≡ false → Wrote m b 27 0 b
-  wrote-unwritable z =
+  pub wrote-unwritable : {b : List ℕ} → u ≡ false → Wrote m b 27 0 b
+  wrote-unwritable {b} z =
       let h = long-enough in
       record {
         long = refl;
@@ -95,17 +101,13 @@ module _ {m b : List ℕ} {t : Bool} (e : t ≡ leb (need m) (length m)) (y : t 
     is-writable = both (sized (stateOf m)) (writable (stateOf m)) (sym f ∙ z) .1
 
     module _ {h : Head} (k : Headed (stateOf m) h) {n size : ℕ} (o : n ≡ length (occupied (stateOf m .capability) (h .domains * slots) 0)) (p : size ≡ lengthFor (h .turns) n) where
-      -- as many entries as the rules say
-      pub count-is : n ≡ length (occupied (stateOf m .capability) (slot (stateOf m .domains) 0) 0)
-      count-is = o ∙ ap length (slots-of (stateOf m .capability) _ _ (k .domains))
-
       -- the size is the image's
       pub size-is : size ≡ length (bytesFor (stateOf m))
-      size-is = p ∙ (rw (count-is, k .turns) refl ∙ sym (size-law (stateOf m)))
+      size-is = p ∙ (rw (count-is m k o, k .turns) refl ∙ sym (size-law (stateOf m)))
 
       -- 28
-      pub wrote-small : length b < size → Wrote m b 28 0 b
-      wrote-small l =
+      pub wrote-small : {b : List ℕ} → length b < size → Wrote m b 28 0 b
+      wrote-small {b} l =
           let h = long-enough in
           record {
             long = refl;
@@ -120,8 +122,8 @@ module _ {m b : List ℕ} {t : Bool} (e : t ≡ leb (need m) (length m)) (y : t 
           }
 
       -- 0
-      pub wrote-image : {c : List ℕ} {j : ℕ} → size ≤ length b → Laid b 0 (bytesFor (stateOf m)) j c → Wrote m b 0 size c
-      wrote-image {c} {j} l w =
+      pub wrote-image : {b c : List ℕ} {j : ℕ} → size ≤ length b → Laid b 0 (bytesFor (stateOf m)) j c → Wrote m b 0 size c
+      wrote-image {b} l w =
           let h = long-enough in
           let e = size-is in
           record {

@@ -1,3 +1,4 @@
+-- `write::count` meets its contract. Assumes nothing.
 use mathlib.Core.Path.{_≡_}
 use Prim.Native.Nat.{_≤_, _-_}
 use native.Mathlib.Omega.{arith}
@@ -8,9 +9,6 @@ use Rattle.layout.specs.Layout.{stateOf}
 use Rattle.write.proofs.Entering.{count-begin, count-least, count-more, count-end}
 use Rattle.write.proofs.count.Statement.{statement}
 use Rattle.write.proofs.count.Tie as tie
-use Rattle.write.proofs.count.Reads as reads
-use Rattle.write.proofs.count.Lts as lts
-use Rattle.write.proofs.held.Reads as held-reads
 
 abbrev Inv-loop : tie.InvT-loop
 Inv-loop mem n total₀ p₀ total p = (p ≤ n) × (total ≡ length (occupied (stateOf mem .capability) p 0))
@@ -18,33 +16,26 @@ Inv-loop mem n total₀ p₀ total p = (p ≤ n) × (total ≡ length (occupied 
 abbrev μ-loop : tie.MeasureT-loop
 μ-loop mem n total₀ p₀ total p = n - p
 
--- src/lib.rt:60:5
 loop-holds : tie.Need-loop-holds Inv-loop μ-loop
 loop-holds c = (search needs, count-begin _)
 
--- src/lib.rt:61:18
 held-requires : tie.Need-held-requires Inv-loop μ-loop
 held-requires c κs = search needs
 
--- src/lib.rt:61:9
 add-total : tie.Need-add-total Inv-loop μ-loop
 add-total c =
     let w = count-least _ _ _ _ (c .before .before .loop .inv .1) (c .held .ensures) in
     omega arith
 
--- src/lib.rt:62:9
 add-p : tie.Need-add-p Inv-loop μ-loop
 add-p c = search needs
 
--- src/lib.rt:60:5
 loop-less : tie.Need-loop-less Inv-loop μ-loop
 loop-less c = search needs
 
--- src/lib.rt:60:5
 loop-again : tie.Need-loop-again Inv-loop μ-loop
 loop-again c = (search needs, count-more _ _ _ _ (c .before .before .loop .inv .1) (c .held .ensures))
 
--- src/lib.rt:54:1
 returns : tie.Need-returns Inv-loop μ-loop
 returns c = count-end _ _ _ _ (c .before .loop .inv .0) (c .loop-test .left) (c .before .loop .inv .1)
 

@@ -1,20 +1,15 @@
+-- `write::held` meets its contract. Assumes nothing.
 use Rattle.write.proofs.Entering.{held-none, held-some}
 use borrow.Author.Needs.{needs}
 use Rattle.write.proofs.held.Statement.{statement}
 use Rattle.write.proofs.held.Tie as tie
-use Rattle.write.proofs.held.Reads as reads
-use Rattle.write.proofs.held.Lts as lts
-use Rattle.layout.proofs.see.Reads as see-reads
 
--- src/lib.rt:45:9
 see-requires : tie.Need-see-requires
 see-requires c κs = search needs
 
--- src/lib.rt:48:9
 returns : tie.Need-returns
 returns c = held-none _ _ _ (c .before .before .before .see .ensures .0) (c .if1 .taken)
 
--- src/lib.rt:41:1
 returns-2 : tie.Need-returns-2
 returns-2 c = held-some _ _ _ (c .before .before .before .see .ensures .0) (c .if1 .left)
 

@@ -1,32 +1,25 @@
+-- `write::size_for` meets its contract. Assumes nothing.
 use mathlib.Core.Path.{refl}
 use Rattle.rules.specs.Image.{padded, entriesAt, lengthFor}
 use borrow.Author.Needs.{needs}
 use Rattle.write.proofs.size_for.Statement.{statement}
 use Rattle.write.proofs.size_for.Tie as tie
-use Rattle.write.proofs.size_for.Reads as reads
-use Rattle.write.proofs.size_for.Lts as lts
 
--- src/lib.rt:72:15
 add-result : tie.Need-add-result
 add-result c = search needs
 
--- src/lib.rt:72:14
 mul-result : tie.Need-mul-result
 mul-result c = search needs
 
--- src/lib.rt:72:5
 add-result-2 : tie.Need-add-result-2
 add-result-2 c = search needs
 
--- src/lib.rt:72:36
 mul-result-2 : tie.Need-mul-result-2
 mul-result-2 c = search needs
 
--- src/lib.rt:72:5
 add-result-3 : tie.Need-add-result-3
 add-result-3 c = search needs
 
--- src/lib.rt:68:1
 returns : tie.Need-returns
 unfolding lengthFor entriesAt padded
 returns c = refl

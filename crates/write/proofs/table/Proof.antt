@@ -1,3 +1,4 @@
+-- `write::table` meets its contract. Assumes nothing.
 use mathlib.Core.Path.{_≡_}
 use Prim.Native.Nat.{_+_, _-_, _≤_}
 use native.Mathlib.Omega.{arith}
@@ -8,10 +9,6 @@ use Rattle.write.specs.Laid.{Laid}
 use Rattle.write.proofs.Laying.{laid-none, table-more, table-end}
 use Rattle.write.proofs.table.Statement.{statement}
 use Rattle.write.proofs.table.Tie as tie
-use Rattle.write.proofs.table.Reads as reads
-use Rattle.write.proofs.table.Lts as lts
-use Rattle.layout.proofs.turn_at.Reads as turn-at-reads
-use Rattle.write.proofs.put.byte.Reads as byte-reads
 
 abbrev Inv-loop : tie.InvT-loop
 Inv-loop mem image₀ i n at₀ k₀ image at k = (k ≤ n) × (at ≡ i + k) × Laid image₀ i (take k (stateOf mem .turns)) at image
@@ -19,35 +16,27 @@ Inv-loop mem image₀ i n at₀ k₀ image at k = (k ≤ n) × (at ≡ i + k) ×
 abbrev μ-loop : tie.MeasureT-loop
 μ-loop mem image₀ i n at₀ k₀ image at k = n - k
 
--- src/lib.rt:82:5
 loop-holds : tie.Need-loop-holds Inv-loop μ-loop
 loop-holds c = (search needs, search needs, laid-none)
 
--- src/lib.rt:83:35
 turn-at-requires : tie.Need-turn-at-requires Inv-loop μ-loop
 turn-at-requires c κs = search needs
 
--- src/lib.rt:83:9
 byte-requires : tie.Need-byte-requires Inv-loop μ-loop
 byte-requires c κs = search needs
 
--- src/lib.rt:84:9
 add-k : tie.Need-add-k Inv-loop μ-loop
 add-k c = search needs
 
--- src/lib.rt:82:5
 loop-less : tie.Need-loop-less Inv-loop μ-loop
 loop-less c = search needs
 
--- src/lib.rt:82:5
 loop-again : tie.Need-loop-again Inv-loop μ-loop
 loop-again c = (search needs, search needs, table-more (stateOf (c .before .before .before .before .before .before .before .before .before .args .mem .now) .turns) (c .before .before .before .before .before .before .loop .k) (omega arith) (c .before .before .before .turn-at .ensures) (c .before .before .before .before .before .before .loop .inv .2) (c .before .before .byte .ensures))
 
--- src/lib.rt:76:1
 same-length : tie.Need-same-length Inv-loop μ-loop
 same-length c = c .before .loop .inv .2 .long
 
--- src/lib.rt:76:1
 returns : tie.Need-returns Inv-loop μ-loop
 returns c = table-end (stateOf (c .before .before .before .before .args .mem .now) .turns) (c .before .loop .k) (omega arith) (c .before .loop .inv .2)
 

@@ -1,3 +1,4 @@
+-- `write::blank::bells_zero` meets its contract. Assumes nothing.
 use Rattle.write.proofs.Tests.{below-none, below-more, below-fails, below-end, zero-there, zero-none}
 use mathlib.Core.Path.{_≡_}
 use mathlib.Core.Bool.{true}
@@ -9,9 +10,6 @@ use Rattle.layout.specs.Layout.{stateOf}
 use Rattle.write.specs.Laid.{zeroBell}
 use Rattle.write.proofs.blank.bells_zero.Statement.{statement}
 use Rattle.write.proofs.blank.bells_zero.Tie as tie
-use Rattle.write.proofs.blank.bells_zero.Reads as reads
-use Rattle.write.proofs.blank.bells_zero.Lts as lts
-use Rattle.layout.proofs.bell.Reads as bell-reads
 
 abbrev Inv-loop : tie.InvT-loop
 Inv-loop mem b₀ b = (b ≤ bells) × (allBelow b (zeroBell (stateOf mem)) ≡ true)
@@ -19,31 +17,24 @@ Inv-loop mem b₀ b = (b ≤ bells) × (allBelow b (zeroBell (stateOf mem)) ≡ 
 abbrev μ-loop : tie.MeasureT-loop
 μ-loop mem b₀ b = bells - b
 
--- src/blank.rt:79:5
 loop-holds : tie.Need-loop-holds Inv-loop μ-loop
 loop-holds c = (search needs, below-none _)
 
--- src/blank.rt:80:12
 bell-requires : tie.Need-bell-requires Inv-loop μ-loop
 bell-requires c κs = search needs
 
--- src/blank.rt:81:13
 returns : tie.Need-returns Inv-loop μ-loop
 returns c = below-fails _ _ _ (c .before .before .loop-test .taken) (zero-there _ _ (c .before .bell .ensures) (c .if1 .taken))
 
--- src/blank.rt:83:9
 add-b : tie.Need-add-b Inv-loop μ-loop
 add-b c = search needs
 
--- src/blank.rt:79:5
 loop-less : tie.Need-loop-less Inv-loop μ-loop
 loop-less c = search needs
 
--- src/blank.rt:79:5
 loop-again : tie.Need-loop-again Inv-loop μ-loop
 loop-again c = (search needs, below-more _ _ (c .before .before .before .loop .inv .1) (zero-none _ _ (c .before .bell .ensures) (c .if1 .left)))
 
--- src/blank.rt:74:1
 returns-2 : tie.Need-returns-2 Inv-loop μ-loop
 returns-2 c = below-end _ _ _ (c .before .loop .inv .0) (c .loop-test .left) (c .before .loop .inv .1)
 

@@ -1,53 +1,37 @@
+-- `write::blank::describable` meets its contract. Assumes nothing.
 use borrow.Author.Tests.{not-true, not-false}
 use Rattle.write.proofs.Tests.{range-fails, mail-fails, words-fail, bells-fail, position-tells}
 use borrow.Author.Needs.{needs}
 use Rattle.write.proofs.blank.describable.Statement.{statement}
 use Rattle.write.proofs.blank.describable.Tie as tie
-use Rattle.write.proofs.blank.describable.Reads as reads
-use Rattle.write.proofs.blank.describable.Lts as lts
-use Rattle.layout.proofs.head_of.Reads as head-of-reads
-use Rattle.write.proofs.blank.bells_zero.Reads as bells-zero-reads
-use Rattle.write.proofs.blank.frames_zero.Reads as frames-zero-reads
-use Rattle.write.proofs.blank.in_range.Reads as in-range-reads
-use Rattle.write.proofs.blank.mailboxes_empty.Reads as mailboxes-empty-reads
 
--- src/blank.rt:93:9
 head-of-requires : tie.Need-head-of-requires
 head-of-requires c κs = search needs
 
--- src/blank.rt:94:9
 in-range-requires : tie.Need-in-range-requires
 in-range-requires c κs = search needs
 
--- src/blank.rt:95:9
 returns : tie.Need-returns
 returns c = range-fails (c .before .before .head-of .ensures) (c .before .in-range .ensures) (not-true _ (c .if1 .taken))
 
--- src/blank.rt:97:9
 mailboxes-empty-requires : tie.Need-mailboxes-empty-requires
 mailboxes-empty-requires c κs = search needs
 
--- src/blank.rt:98:9
 returns-2 : tie.Need-returns-2
 returns-2 c = mail-fails (c .before .before .before .before .head-of .ensures) (c .before .before .before .in-range .ensures) (not-false _ (c .before .before .if1 .left)) (c .before .mailboxes-empty .ensures) (not-true _ (c .if2 .taken))
 
--- src/blank.rt:100:9
 frames-zero-requires : tie.Need-frames-zero-requires
 frames-zero-requires c κs = search needs
 
--- src/blank.rt:101:9
 returns-3 : tie.Need-returns-3
 returns-3 c = words-fail (c .before .before .before .before .before .before .head-of .ensures) (c .before .before .before .before .before .in-range .ensures) (not-false _ (c .before .before .before .before .if1 .left)) (c .before .before .before .mailboxes-empty .ensures) (not-false _ (c .before .before .if2 .left)) (c .before .frames-zero .ensures) (not-true _ (c .if3 .taken))
 
--- src/blank.rt:103:9
 bells-zero-requires : tie.Need-bells-zero-requires
 bells-zero-requires c κs = search needs
 
--- src/blank.rt:104:9
 returns-4 : tie.Need-returns-4
 returns-4 c = bells-fail (c .before .before .before .before .before .before .before .before .head-of .ensures) (c .before .before .before .before .before .before .before .in-range .ensures) (not-false _ (c .before .before .before .before .before .before .if1 .left)) (c .before .before .before .before .before .mailboxes-empty .ensures) (not-false _ (c .before .before .before .before .if2 .left)) (c .before .before .before .frames-zero .ensures) (not-false _ (c .before .before .if3 .left)) (c .before .bells-zero .ensures) (not-true _ (c .if4 .taken))
 
--- src/blank.rt:89:1
 returns-5 : tie.Need-returns-5
 returns-5 c = position-tells (c .before .before .before .before .before .before .before .before .before .head-of .ensures) (c .before .before .before .before .before .before .before .before .in-range .ensures) (not-false _ (c .before .before .before .before .before .before .before .if1 .left)) (c .before .before .before .before .before .before .mailboxes-empty .ensures) (not-false _ (c .before .before .before .before .before .if2 .left)) (c .before .before .before .before .frames-zero .ensures) (not-false _ (c .before .before .before .if3 .left)) (c .before .before .bells-zero .ensures) (not-false _ (c .before .if4 .left))
 

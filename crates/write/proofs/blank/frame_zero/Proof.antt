@@ -1,3 +1,4 @@
+-- `write::blank::frame_zero` meets its contract. Assumes nothing.
 use Rattle.write.proofs.Tests.{below-none, below-more, below-fails, below-end, zero-there, zero-none}
 use mathlib.Core.Path.{_≡_}
 use mathlib.Core.Bool.{true}
@@ -9,9 +10,6 @@ use Rattle.layout.specs.Layout.{stateOf}
 use Rattle.write.specs.Laid.{zeroWord}
 use Rattle.write.proofs.blank.frame_zero.Statement.{statement}
 use Rattle.write.proofs.blank.frame_zero.Tie as tie
-use Rattle.write.proofs.blank.frame_zero.Reads as reads
-use Rattle.write.proofs.blank.frame_zero.Lts as lts
-use Rattle.layout.proofs.word.Reads as word-reads
 
 abbrev Inv-loop : tie.InvT-loop
 Inv-loop mem f w₀ w = (w ≤ frameWords) × (allBelow w (zeroWord (stateOf mem) f) ≡ true)
@@ -19,31 +17,24 @@ Inv-loop mem f w₀ w = (w ≤ frameWords) × (allBelow w (zeroWord (stateOf mem
 abbrev μ-loop : tie.MeasureT-loop
 μ-loop mem f w₀ w = frameWords - w
 
--- src/blank.rt:49:5
 loop-holds : tie.Need-loop-holds Inv-loop μ-loop
 loop-holds c = (search needs, below-none _)
 
--- src/blank.rt:50:12
 word-requires : tie.Need-word-requires Inv-loop μ-loop
 word-requires c κs = search needs
 
--- src/blank.rt:51:13
 returns : tie.Need-returns Inv-loop μ-loop
 returns c = below-fails _ _ _ (c .before .before .loop-test .taken) (zero-there _ _ (c .before .word .ensures) (c .if1 .taken))
 
--- src/blank.rt:53:9
 add-w : tie.Need-add-w Inv-loop μ-loop
 add-w c = search needs
 
--- src/blank.rt:49:5
 loop-less : tie.Need-loop-less Inv-loop μ-loop
 loop-less c = search needs
 
--- src/blank.rt:49:5
 loop-again : tie.Need-loop-again Inv-loop μ-loop
 loop-again c = (search needs, below-more _ _ (c .before .before .before .loop .inv .1) (zero-none _ _ (c .before .word .ensures) (c .if1 .left)))
 
--- src/blank.rt:44:1
 returns-2 : tie.Need-returns-2 Inv-loop μ-loop
 returns-2 c = below-end _ _ _ (c .before .loop .inv .0) (c .loop-test .left) (c .before .loop .inv .1)
 

@@ -1,3 +1,4 @@
+-- `write::blank::frames_zero` meets its contract. Assumes nothing.
 use Rattle.write.proofs.Tests.{below-none, below-more, below-fails, below-end}
 use mathlib.Core.Path.{_≡_, sym, _∙_}
 use borrow.Author.Tests.{not-true, not-false}
@@ -10,9 +11,6 @@ use Rattle.layout.specs.Layout.{stateOf}
 use Rattle.write.specs.Laid.{zeroFrame}
 use Rattle.write.proofs.blank.frames_zero.Statement.{statement}
 use Rattle.write.proofs.blank.frames_zero.Tie as tie
-use Rattle.write.proofs.blank.frames_zero.Reads as reads
-use Rattle.write.proofs.blank.frames_zero.Lts as lts
-use Rattle.write.proofs.blank.frame_zero.Reads as frame-zero-reads
 
 abbrev Inv-loop : tie.InvT-loop
 Inv-loop mem n f₀ f = (f ≤ n) × (allBelow f (zeroFrame (stateOf mem)) ≡ true)
@@ -20,31 +18,24 @@ Inv-loop mem n f₀ f = (f ≤ n) × (allBelow f (zeroFrame (stateOf mem)) ≡ t
 abbrev μ-loop : tie.MeasureT-loop
 μ-loop mem n f₀ f = n - f
 
--- src/blank.rt:64:5
 loop-holds : tie.Need-loop-holds Inv-loop μ-loop
 loop-holds c = (search needs, below-none _)
 
--- src/blank.rt:65:13
 frame-zero-requires : tie.Need-frame-zero-requires Inv-loop μ-loop
 frame-zero-requires c κs = search needs
 
--- src/blank.rt:66:13
 returns : tie.Need-returns Inv-loop μ-loop
 returns c = below-fails _ _ _ (c .before .before .loop-test .taken) (sym (c .before .frame-zero .ensures) ∙ not-true _ (c .if1 .taken))
 
--- src/blank.rt:68:9
 add-f : tie.Need-add-f Inv-loop μ-loop
 add-f c = search needs
 
--- src/blank.rt:64:5
 loop-less : tie.Need-loop-less Inv-loop μ-loop
 loop-less c = search needs
 
--- src/blank.rt:64:5
 loop-again : tie.Need-loop-again Inv-loop μ-loop
 loop-again c = (search needs, below-more _ _ (c .before .before .before .loop .inv .1) (sym (c .before .frame-zero .ensures) ∙ not-false _ (c .if1 .left)))
 
--- src/blank.rt:59:1
 returns-2 : tie.Need-returns-2 Inv-loop μ-loop
 returns-2 c = below-end _ _ _ (c .before .loop .inv .0) (c .loop-test .left) (c .before .loop .inv .1)
 

@@ -1,3 +1,4 @@
+-- `write::blank::mailboxes_empty` meets its contract. Assumes nothing.
 use Rattle.write.proofs.Tests.{below-none, below-more, below-fails, below-end, mail-there, mail-none}
 use mathlib.Core.Path.{_≡_}
 use mathlib.Core.Bool.{true}
@@ -9,9 +10,6 @@ use Rattle.layout.specs.Layout.{stateOf}
 use Rattle.write.specs.Laid.{empty}
 use Rattle.write.proofs.blank.mailboxes_empty.Statement.{statement}
 use Rattle.write.proofs.blank.mailboxes_empty.Tie as tie
-use Rattle.write.proofs.blank.mailboxes_empty.Reads as reads
-use Rattle.write.proofs.blank.mailboxes_empty.Lts as lts
-use Rattle.layout.proofs.message.Reads as message-reads
 
 abbrev Inv-loop : tie.InvT-loop
 Inv-loop mem i₀ i = (i ≤ mailboxes) × (allBelow i (empty (stateOf mem)) ≡ true)
@@ -19,31 +17,24 @@ Inv-loop mem i₀ i = (i ≤ mailboxes) × (allBelow i (empty (stateOf mem)) ≡
 abbrev μ-loop : tie.MeasureT-loop
 μ-loop mem i₀ i = mailboxes - i
 
--- src/blank.rt:33:5
 loop-holds : tie.Need-loop-holds Inv-loop μ-loop
 loop-holds c = (search needs, below-none _)
 
--- src/blank.rt:34:13
 message-requires : tie.Need-message-requires Inv-loop μ-loop
 message-requires c κs = search needs
 
--- src/blank.rt:36:13
 returns : tie.Need-returns Inv-loop μ-loop
 returns c = below-fails _ _ _ (c .before .before .before .loop-test .taken) (mail-there _ _ (c .before .before .message .ensures) (c .if1 .taken))
 
--- src/blank.rt:38:9
 add-i : tie.Need-add-i Inv-loop μ-loop
 add-i c = search needs
 
--- src/blank.rt:33:5
 loop-less : tie.Need-loop-less Inv-loop μ-loop
 loop-less c = search needs
 
--- src/blank.rt:33:5
 loop-again : tie.Need-loop-again Inv-loop μ-loop
 loop-again c = (search needs, below-more _ _ (c .before .before .before .before .loop .inv .1) (mail-none _ _ (c .before .before .message .ensures) (c .if1 .left)))
 
--- src/blank.rt:28:1
 returns-2 : tie.Need-returns-2 Inv-loop μ-loop
 returns-2 c = below-end _ _ _ (c .before .loop .inv .0) (c .loop-test .left) (c .before .loop .inv .1)
 

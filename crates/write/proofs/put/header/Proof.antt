@@ -1,37 +1,27 @@
+-- `write::put::header` meets its contract. Assumes nothing.
 use Rattle.write.proofs.Laying.{laid-then}
 use borrow.Author.Needs.{needs}
 use Rattle.write.proofs.put.header.Statement.{statement}
 use Rattle.write.proofs.put.header.Tie as tie
-use Rattle.write.proofs.put.header.Reads as reads
-use Rattle.write.proofs.put.header.Lts as lts
-use Rattle.write.proofs.put.byte.Reads as byte-reads
-use Rattle.write.proofs.put.two.Reads as two-reads
 
--- src/put.rt:76:9
 byte-requires : tie.Need-byte-requires
 byte-requires c κs = search needs
 
--- src/put.rt:77:9
 byte-requires-2 : tie.Need-byte-requires-2
 byte-requires-2 c κs = search needs
 
--- src/put.rt:78:9
 two-requires : tie.Need-two-requires
 two-requires c κs = search needs
 
--- src/put.rt:79:9
 two-requires-2 : tie.Need-two-requires-2
 two-requires-2 c κs = search needs
 
--- src/put.rt:80:5
 two-requires-3 : tie.Need-two-requires-3
 two-requires-3 c κs = search needs
 
--- src/put.rt:72:1
 same-length : tie.Need-same-length
 same-length c = search needs
 
--- src/put.rt:72:1
 returns : tie.Need-returns
 returns c = laid-then (c .before .before .before .before .before .before .before .before .before .before .before .before .before .before .before .before .before .before .byte .ensures) (laid-then (c .before .before .before .before .before .before .before .before .before .before .before .before .before .before .byte2 .ensures) (laid-then (c .before .before .before .before .before .before .before .before .before .before .two .ensures) (laid-then (c .before .before .before .before .before .before .two2 .ensures) (c .before .before .two3 .ensures))))
 

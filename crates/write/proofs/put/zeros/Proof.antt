@@ -1,3 +1,4 @@
+-- `write::put::zeros` meets its contract. Assumes nothing.
 use mathlib.Core.Path.{_≡_}
 use Rattle.write.proofs.Laying.{laid-none, zeros-more, zeros-end}
 use borrow.Author.Needs.{needs}
@@ -7,9 +8,6 @@ use lib.ListN.{replicate}
 use Rattle.write.specs.Laid.{Laid}
 use Rattle.write.proofs.put.zeros.Statement.{statement}
 use Rattle.write.proofs.put.zeros.Tie as tie
-use Rattle.write.proofs.put.zeros.Reads as reads
-use Rattle.write.proofs.put.zeros.Lts as lts
-use Rattle.write.proofs.put.byte.Reads as byte-reads
 
 abbrev Inv-loop : tie.InvT-loop
 Inv-loop image₀ i n at₀ k₀ image at k = (k ≤ n) × (at ≡ i + k) × Laid image₀ i (replicate k 0) at image
@@ -17,31 +15,24 @@ Inv-loop image₀ i n at₀ k₀ image at k = (k ≤ n) × (at ≡ i + k) × Lai
 abbrev μ-loop : tie.MeasureT-loop
 μ-loop image₀ i n at₀ k₀ image at k = n - k
 
--- src/put.rt:90:5
 loop-holds : tie.Need-loop-holds Inv-loop μ-loop
 loop-holds c = (search needs, search needs, laid-none)
 
--- src/put.rt:91:9
 byte-requires : tie.Need-byte-requires Inv-loop μ-loop
 byte-requires c κs = search needs
 
--- src/put.rt:92:9
 add-k : tie.Need-add-k Inv-loop μ-loop
 add-k c = search needs
 
--- src/put.rt:90:5
 loop-less : tie.Need-loop-less Inv-loop μ-loop
 loop-less c = search needs
 
--- src/put.rt:90:5
 loop-again : tie.Need-loop-again Inv-loop μ-loop
 loop-again c = (search needs, search needs, zeros-more (c .before .before .before .before .before .loop .k) (c .before .before .before .before .before .loop .inv .2) (c .before .before .byte .ensures))
 
--- src/put.rt:84:1
 same-length : tie.Need-same-length Inv-loop μ-loop
 same-length c = c .before .loop .inv .2 .long
 
--- src/put.rt:84:1
 returns : tie.Need-returns Inv-loop μ-loop
 returns c = zeros-end _ _ (c .before .loop .inv .0) (c .loop-test .left) (c .before .loop .inv .2)
 
