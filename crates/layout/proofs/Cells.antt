@@ -15,7 +15,8 @@ use Rattle.rules.proofs.Places.{same?}
 use Rattle.rules.specs.Sizes.{framesMost, places, bells, mailboxes, turnsMost, frameWords}
 use Rattle.rules.specs.State.{State, whose}
 use Rattle.rules.specs.declared.Capability.{Capability}
-use Rattle.layout.specs.Layout.{size, base, cells, listed, ofCells, stateOf, framesAt, wordsOf, need, HEAD, KIND, RIGHTS, OBJECT, BADGE, SOURCE, BELLS, FULL, FROM, W0, W1, W2, W3}
+use Rattle.layout.specs.declared.Head.{Head}
+use Rattle.layout.specs.Layout.{size, base, cells, listed, ofCells, stateOf, Headed, framesAt, wordsOf, need, HEAD, KIND, RIGHTS, OBJECT, BADGE, SOURCE, BELLS, FULL, FROM, W0, W1, W2, W3}
 
 -- a word of a region
 pub cells-at : (m : List ℕ) (r i : ℕ) → i < size r → cells m r i ≡ getD m (base r + i) 0
@@ -180,21 +181,41 @@ unfolding listed
 length-listed f zero i = refl
 length-listed f (suc n) i = ap suc (length-listed f n (suc i))
 
-pub turn-at : (m : List ℕ) → getD m 3 0 < getD m 2 0 → getD m 3 0 < turnsMost → getD m (4 + getD m 3 0) 0 ≡ whose (stateOf m)
-unfolding stateOf ofCells cells size base whose
-turn-at m h g =
-    sym (listed-at (λ i. cond (ltb i turnsMost) (getD m (4 + i) 0) 0) (getD m 2 0) 0 (getD m 3 0) h
-    ∙ rw (let e : 0 + getD m 3 0 ≡ getD m 3 0 = omega arith in e, lt-ltb (getD m 3 0) turnsMost g))
+-- a turn of the table, past its end, and past the region's
+pub turn-at : (m : List ℕ) (i : ℕ) → i < getD m 2 0 → i < turnsMost → getD m (4 + i) 0 ≡ getD (stateOf m .turns) i 0
+unfolding stateOf ofCells cells size base
+turn-at m i h g =
+    sym (listed-at (λ k. cond (ltb k turnsMost) (getD m (4 + k) 0) 0) (getD m 2 0) 0 i h
+    ∙ rw (let e : 0 + i ≡ i = omega arith in e, lt-ltb i turnsMost g))
 
-pub turn-past : (m : List ℕ) → getD m 2 0 ≤ getD m 3 0 → 0 ≡ whose (stateOf m)
-unfolding stateOf ofCells cells size base whose
-turn-past m h = sym (listed-past (λ i. cond (ltb i turnsMost) (getD m (4 + i) 0) 0) (getD m 2 0) 0 (getD m 3 0) h)
+pub turn-past : (m : List ℕ) (i : ℕ) → getD m 2 0 ≤ i → 0 ≡ getD (stateOf m .turns) i 0
+unfolding stateOf ofCells cells size base
+turn-past m i h = sym (listed-past (λ k. cond (ltb k turnsMost) (getD m (4 + k) 0) 0) (getD m 2 0) 0 i h)
 
-pub turn-beyond : (m : List ℕ) → getD m 3 0 < getD m 2 0 → turnsMost ≤ getD m 3 0 → 0 ≡ whose (stateOf m)
+pub turn-beyond : (m : List ℕ) (i : ℕ) → i < getD m 2 0 → turnsMost ≤ i → 0 ≡ getD (stateOf m .turns) i 0
+unfolding stateOf ofCells cells size base
+turn-beyond m i h g =
+    sym (listed-at (λ k. cond (ltb k turnsMost) (getD m (4 + k) 0) 0) (getD m 2 0) 0 i h
+    ∙ rw (let e : 0 + i ≡ i = omega arith in e, le-ltb i turnsMost g))
+
+-- the turn at the position, in the same three ways
+whose-law : (m : List ℕ) → whose (stateOf m) ≡ getD (stateOf m .turns) (getD m 3 0) 0
 unfolding stateOf ofCells cells size base whose
-turn-beyond m h g =
-    sym (listed-at (λ i. cond (ltb i turnsMost) (getD m (4 + i) 0) 0) (getD m 2 0) 0 (getD m 3 0) h
-    ∙ rw (let e : 0 + getD m 3 0 ≡ getD m 3 0 = omega arith in e, le-ltb (getD m 3 0) turnsMost g))
+whose-law m = refl
+
+pub whose-at : (m : List ℕ) → getD m 3 0 < getD m 2 0 → getD m 3 0 < turnsMost → getD m (4 + getD m 3 0) 0 ≡ whose (stateOf m)
+whose-at m h g = turn-at m (getD m 3 0) h g ∙ sym (whose-law m)
+
+pub whose-past : (m : List ℕ) → getD m 2 0 ≤ getD m 3 0 → 0 ≡ whose (stateOf m)
+whose-past m h = turn-past m (getD m 3 0) h ∙ sym (whose-law m)
+
+pub whose-beyond : (m : List ℕ) → getD m 3 0 < getD m 2 0 → turnsMost ≤ getD m 3 0 → 0 ≡ whose (stateOf m)
+whose-beyond m h g = turn-beyond m (getD m 3 0) h g ∙ sym (whose-law m)
+
+-- D, F, T and the position, as they stand in memory
+pub head-read : (m : List ℕ) → Headed (stateOf m) (record { domains = getD m 0 0; frames = getD m 1 0; turns = getD m 2 0; position = getD m 3 0 })
+unfolding stateOf ofCells cells size base
+head-read m = record { domains = refl; frames = refl; turns = sym (length-listed _ (getD m 2 0) 0); position = refl }
 
 -- the next position: on by one, and from the last to the first
 pub on-by-one : (at t : ℕ) → at + 1 < t → at + 1 ≡ cond (eqb (suc at) t) 0 (suc at)

@@ -8,6 +8,7 @@ use lib.Dec.{eqb, leb, ltb}
 use lib.ListN.{length, getD}
 use Rattle.rules.specs.Sizes.{framesMost, mailboxes, bells, turnsMost, places, frameWords}
 use Rattle.rules.specs.State.{State, Section4, Formed}
+use Rattle.layout.specs.declared.Head.{Head}
 
 -- the regions: the head (D, F, T and the position), the table of turns, the five fields of a place, the bells, the six fields of a message
 abbrev pub HEAD : ℕ
@@ -119,3 +120,10 @@ need m = wordsFor (stateOf m .frames)
 -- the memory is long enough for the state that it claims to hold
 abbrev pub Enough : List ℕ → Type 0
 Enough m = need m ≤ length m
+
+-- the head of a state: D, F, how many turns its table has, and the position
+pub record Headed (s : State) (h : Head) : Type 0 where
+  pub domains : h .domains ≡ s .domains
+  pub frames : h .frames ≡ s .frames
+  pub turns : h .turns ≡ length (s .turns)
+  pub position : h .position ≡ s .position

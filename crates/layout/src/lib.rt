@@ -6,11 +6,11 @@ ghost use mathlib.Core.Path.{_≡_};
 ghost use mathlib.Core.Bool.{cond};
 ghost use Prim.Native.Nat.{suc, _+_, _≤_, _<_};
 ghost use lib.Dec.{eqb, leb};
-ghost use lib.ListN.{length};
+ghost use lib.ListN.{length, getD};
 ghost use Rattle.rules.specs.Sizes.{places, bells, mailboxes, turnsMost, frameWords};
 ghost use Rattle.rules.specs.State.{whose as turnOf};
 ghost use Rattle.rules.specs.Turn.{advance};
-ghost use Rattle.layout.specs.Layout.{stateOf, positionAt, framesAt, need, Enough, visitsMost, wordsOf};
+ghost use Rattle.layout.specs.Layout.{stateOf, Headed, positionAt, framesAt, need, Enough, visitsMost, wordsOf};
 ghost use Rattle.layout.specs.Stored.{Stored, placed, handed, worded, belled, mailed, Placed, Elsewhere, Cleared, headed, turning};
 
 const PLACES: usize = 1088;
@@ -220,6 +220,40 @@ pub fn whose(mem: &[u32]) -> u32
     if at < mem[TURN_COUNT] {
         if at < 64 {
             return mem[TURNS + at as usize];
+        }
+    }
+    0
+}
+
+// The head of a state: D, F, how many turns the table has, and the position in it.
+pub struct Head {
+    pub domains: u32,
+    pub frames: u32,
+    pub turns: u32,
+    pub position: u32,
+}
+
+// The head of the state.
+pub fn head_of(mem: &[u32]) -> Head
+    requires { ⌜ Enough (now mem) ⌝ }
+    ensures { λ r. ⌜ Headed (stateOf (now (mem .entry))) r ⌝ }
+{
+    Head {
+        domains: mem[0],
+        frames: mem[FRAME_COUNT],
+        turns: mem[TURN_COUNT],
+        position: mem[POSITION],
+    }
+}
+
+// The domain of turn i of the table, and 0 past its end.
+pub fn turn_at(mem: &[u32], i: u32) -> u32
+    requires { ⌜ Enough (now mem) ⌝ }
+    ensures { λ r. ⌜ r ≡ getD (stateOf (now (mem .entry)) .turns) i 0 ⌝ }
+{
+    if i < mem[TURN_COUNT] {
+        if i < 64 {
+            return mem[TURNS + i as usize];
         }
     }
     0

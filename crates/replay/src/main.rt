@@ -1,6 +1,7 @@
 // Replays a trace. Standard input: a u32 image length, the image, then operations of eight u32; standard output: a u32, the image's
-// refusal or 0, then for each operation eight u32: the domain whose turn it was, the status, six words. Numbers are big-endian. The
-// memory that it takes does not grow with the number of operations.
+// refusal or 0, then for each operation eight u32: the domain whose turn it was, the status, six words. With the word 'written' as its
+// argument it writes instead what the writer gives after the last operation: a u32, the refusal or 0, and then the image. Numbers are
+// big-endian. The memory that it takes does not grow with the number of operations.
 use libc::STDIN_FILENO;
 use libc::STDOUT_FILENO;
 use rules::Operation;
@@ -86,13 +87,16 @@ fn chunk(mem: &mut [u32], input: &[u8], output: &mut [u8], n: usize)
     }
 }
 
-// A chunk of operations from standard input, and its answers; true where more may follow.
-fn some(mem: &mut [u32]) -> bool {
+// A chunk of operations from standard input, and its answers, unless they are not asked for; true where more may follow.
+fn some(mem: &mut [u32], silent: bool) -> bool {
     let mut input = io::buffer();
     let mut output = io::buffer();
     let got = io::read_full(STDIN_FILENO, &mut input);
     let n = got / 32;
     chunk(mem, &input, &mut output, n);
+    if silent {
+        return got == CHUNK;
+    }
     if !io::write_all(STDOUT_FILENO, &output[..32 * n]) {
         return false;
     }
@@ -100,9 +104,9 @@ fn some(mem: &mut [u32]) -> bool {
 }
 
 // A proved loop has to end, and nothing says that a trace does: it counts down from a number that no run uses up.
-fn all(mem: &mut [u32]) {
+fn all(mem: &mut [u32], silent: bool) {
     let mut chunks = u64::MAX;
-    while chunks > 0 && some(mem) {
+    while chunks > 0 && some(mem, silent) {
         chunks -= 1;
     }
 }
@@ -141,6 +145,39 @@ fn begin(mem: &mut [u32], space: &mut [u8], length: usize) -> u32 {
     boot::read(&space[..got], mem)
 }
 
+// The argument is the word 'written'.
+fn written() -> bool {
+    let mut word = [0u8; 8];
+    let n = os::arg(1, &mut word);
+    check::same(&word[..n], b"written")
+}
+
+// Writes a number to standard output.
+fn say(n: u32) -> bool {
+    let mut head = [0u8; 4];
+    put(&mut head, 0, n);
+    io::write_all(STDOUT_FILENO, &head)
+}
+
+// What the writer gives of the state in memory.
+fn give(mem: &[u32], space: &mut [u8]) {
+    let w = write::write(mem, space);
+    let size = w.size as usize;
+    if say(w.status) {
+        io::write_all(STDOUT_FILENO, &space[..size]);
+    }
+}
+
+// The operations of an accepted image: their answers, or what the writer gives after them.
+fn follow(mem: &mut [u32], space: &mut [u8]) {
+    if written() {
+        all(mem, true);
+        give(mem, space);
+    } else if say(0) {
+        all(mem, false);
+    }
+}
+
 fn main() {
     let mut head = [0u8; 4];
     if io::read_full(STDIN_FILENO, &mut head) < 4 {
@@ -150,10 +187,9 @@ fn main() {
     let mut space = [0u8; IMAGE];
     let mut mem = [0u32; WORDS];
     let refusal = begin(&mut mem, &mut space, length);
-    put(&mut head, 0, refusal);
-    if io::write_all(STDOUT_FILENO, &head) {
-        if refusal == 0 {
-            all(&mut mem);
-        }
+    if refusal == 0 {
+        follow(&mut mem, &mut space);
+    } else {
+        say(refusal);
     }
 }

@@ -1,5 +1,5 @@
 -- `layout::whose` meets its contract. Assumes nothing.
-use Rattle.layout.proofs.Cells.{turn-at, turn-past, turn-beyond}
+use Rattle.layout.proofs.Cells.{whose-at, whose-past, whose-beyond}
 use borrow.Author.Needs.{needs}
 use Rattle.layout.proofs.whose.Statement.{statement}
 use Rattle.layout.proofs.whose.Tie as tie
@@ -23,13 +23,13 @@ shared-slice-read-result : tie.Need-shared-slice-read-result
 shared-slice-read-result c = search needs
 
 returns : tie.Need-returns
-returns c = search (needs, turn-at)
+returns c = search (needs, whose-at)
 
 returns-2 : tie.Need-returns-2
-returns-2 c = search (needs, turn-beyond)
+returns-2 c = search (needs, whose-beyond)
 
 returns-3 : tie.Need-returns-3
-returns-3 c = search (needs, turn-past)
+returns-3 c = search (needs, whose-past)
 
 pub whose-spec : {M : Type 1} → statement M
 whose-spec =

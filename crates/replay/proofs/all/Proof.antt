@@ -7,10 +7,10 @@ use Rattle.replay.proofs.all.Statement.{statement}
 use Rattle.replay.proofs.all.Tie as tie
 
 abbrev Inv-loop : tie.InvT-loop
-Inv-loop mem₀ chunks₀ mem chunks = length mem ≡ length mem₀
+Inv-loop mem₀ silent chunks₀ mem chunks = length mem ≡ length mem₀
 
 abbrev μ-loop : tie.MeasureT-loop
-μ-loop mem₀ chunks₀ mem chunks = chunks
+μ-loop mem₀ silent chunks₀ mem chunks = chunks
 
 loop-holds : tie.Need-loop-holds Inv-loop μ-loop
 loop-holds c = refl

@@ -26,6 +26,12 @@ slice-aggregate-chunk-2 c = search needs
 chunk-requires : tie.Need-chunk-requires
 chunk-requires c κs = search needs
 
+same-length : tie.Need-same-length
+same-length c = search needs
+
+returns : tie.Need-returns
+returns c = search needs
+
 mul-output : tie.Need-mul-output
 mul-output c = search needs
 
@@ -38,17 +44,17 @@ slice-aggregate-write-all c = simp length-take (omega arith)
 write-all-requires : tie.Need-write-all-requires
 write-all-requires c κs = search needs
 
-same-length : tie.Need-same-length
-same-length c = search needs
-
-returns : tie.Need-returns
-returns c = search needs
-
 same-length-2 : tie.Need-same-length-2
 same-length-2 c = search needs
 
 returns-2 : tie.Need-returns-2
 returns-2 c = search needs
+
+same-length-3 : tie.Need-same-length-3
+same-length-3 c = search needs
+
+returns-3 : tie.Need-returns-3
+returns-3 c = search needs
 
 pub some-spec : {M : Type 1} → statement M
 some-spec =
@@ -61,11 +67,13 @@ some-spec =
     slice-aggregate-chunk
     slice-aggregate-chunk-2
     chunk-requires
+    same-length
+    returns
     mul-output
     array-share-prefix-output
     slice-aggregate-write-all
     write-all-requires
-    same-length
-    returns
     same-length-2
-    returns-2)
+    returns-2
+    same-length-3
+    returns-3)

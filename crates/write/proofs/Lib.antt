@@ -1,0 +1,5 @@
+pub mod Laying
+pub mod Entering
+pub mod Tests
+pub mod Filling
+pub mod Writing

@@ -1,0 +1,11 @@
+-- `write::blank::in_range` meets its contract. Assumes nothing.
+use Rattle.rules.specs.Image.{between}
+use Rattle.write.proofs.blank.in_range.Statement.{statement}
+use Rattle.write.proofs.blank.in_range.Tie as tie
+
+returns : tie.Need-returns
+unfolding between
+returns c = cc
+
+pub in-range-spec : {M : Type 1} → statement M
+in-range-spec = tie.close (tie.spec returns)

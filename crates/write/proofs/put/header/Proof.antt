@@ -1,0 +1,38 @@
+-- `write::put::header` meets its contract. Assumes nothing.
+use Rattle.write.proofs.Laying.{laid-then}
+use borrow.Author.Needs.{needs}
+use Rattle.write.proofs.put.header.Statement.{statement}
+use Rattle.write.proofs.put.header.Tie as tie
+
+byte-requires : tie.Need-byte-requires
+byte-requires c κs = search needs
+
+byte-requires-2 : tie.Need-byte-requires-2
+byte-requires-2 c κs = search needs
+
+two-requires : tie.Need-two-requires
+two-requires c κs = search needs
+
+two-requires-2 : tie.Need-two-requires-2
+two-requires-2 c κs = search needs
+
+two-requires-3 : tie.Need-two-requires-3
+two-requires-3 c κs = search needs
+
+same-length : tie.Need-same-length
+same-length c = search needs
+
+returns : tie.Need-returns
+returns c = laid-then (c .before .before .before .before .before .before .before .before .before .before .before .before .before .before .before .before .before .before .byte .ensures) (laid-then (c .before .before .before .before .before .before .before .before .before .before .before .before .before .before .byte2 .ensures) (laid-then (c .before .before .before .before .before .before .before .before .before .before .two .ensures) (laid-then (c .before .before .before .before .before .before .two2 .ensures) (c .before .before .two3 .ensures))))
+
+pub header-spec : {M : Type 1} → statement M
+header-spec =
+    tie.close
+    (tie.spec
+    byte-requires
+    byte-requires-2
+    two-requires
+    two-requires-2
+    two-requires-3
+    same-length
+    returns)
