@@ -4,6 +4,7 @@ use rules::Answer;
 use rules::Capability;
 use rules::Decision;
 use rules::Effect;
+use rules::SLOTS;
 ghost use mathlib.Core.Path.{_≡_};
 ghost use Prim.Native.Nat.{_+_, _*_, _≤_, _<_};
 ghost use Rattle.rules.specs.Sizes.{domainsMost};
@@ -79,14 +80,14 @@ pub fn any_slot(mem: &[u32], d: u32, x: u32, visits: u32) -> Looked
     requires { ⌜ Enough (now mem) ⌝ ∗ ⌜ d < domainsMost ⌝ ∗ ⌜ visits < 8 ⌝ }
     ensures { λ r. ⌜ Looks r (stateOf (now (mem .entry))) d x (anySlot (stateOf (now (mem .entry))) d x) visits ⌝ }
 {
-    if x >= 64 {
+    if x >= SLOTS {
         return Looked {
             refusal: 2,
             capability: nothing(),
             visits,
         };
     }
-    let seen = layout::see(mem, d * 64 + x, visits);
+    let seen = layout::see(mem, d * SLOTS + x, visits);
     let c = seen.capability;
     if c.kind == 0 {
         return Looked {

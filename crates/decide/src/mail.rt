@@ -5,12 +5,18 @@ use crate::look::done;
 use crate::look::nothing;
 use crate::look::refused;
 use crate::look::slot_for;
+use rules::ALL_SLOTS;
 use rules::Answer;
 use rules::Capability;
 use rules::Decision;
 use rules::Effect;
+use rules::GRANT;
+use rules::MAILBOX;
 use rules::Message;
 use rules::Operation;
+use rules::READ;
+use rules::SLOTS;
+use rules::WRITE;
 ghost use mathlib.Core.Path.{_≡_};
 ghost use Prim.Native.Nat.{_≤_, _<_};
 ghost use Rattle.rules.specs.Sizes.{domainsMost, allSlots, slots, mailboxes};
@@ -52,8 +58,8 @@ fn along(mem: &[u32], d: u32, c: u32, rights: u32, visits: u32) -> Looked
     requires { ⌜ Enough (now mem) ⌝ ∗ ⌜ d < domainsMost ⌝ ∗ ⌜ visits < 8 ⌝ }
     ensures { λ r. ⌜ Carries r (stateOf (now (mem .entry))) d c rights visits ⌝ }
 {
-    if c >= 64 {
-        if c > 64 {
+    if c >= SLOTS {
+        if c > SLOTS {
             return Looked {
                 refusal: 2,
                 capability: nothing(),
@@ -66,14 +72,14 @@ fn along(mem: &[u32], d: u32, c: u32, rights: u32, visits: u32) -> Looked
             visits,
         };
     }
-    if (4 & rights) != 4 {
+    if (GRANT & rights) != GRANT {
         return Looked {
             refusal: 5,
             capability: nothing(),
             visits,
         };
     }
-    let seen = layout::see(mem, d * 64 + c, visits);
+    let seen = layout::see(mem, d * SLOTS + c, visits);
     if seen.capability.kind == 0 {
         return Looked {
             refusal: 3,
@@ -83,7 +89,7 @@ fn along(mem: &[u32], d: u32, c: u32, rights: u32, visits: u32) -> Looked
     }
     Looked {
         refusal: 0,
-        capability: copied(seen.capability, d * 64 + c),
+        capability: copied(seen.capability, d * SLOTS + c),
         visits: seen.visits,
     }
 }
@@ -92,7 +98,7 @@ pub fn send(mem: &[u32], d: u32, op: Operation) -> Decided
     requires { ⌜ Enough (now mem) ⌝ ∗ ⌜ d < domainsMost ⌝ }
     ensures { λ r. ⌜ Decides r (sendRule (stateOf (now (mem .entry))) d (op .first) (op .second) (op .third) (op .fourth) (op .fifth) (op .sixth)) (looksSend (stateOf (now (mem .entry))) d (op .first) (op .second)) ⌝ }
 {
-    let k = slot_for(mem, d, op.first, 2, 2);
+    let k = slot_for(mem, d, op.first, MAILBOX, WRITE);
     if k.refusal != 0 {
         return refused(k.refusal, k.visits);
     }
@@ -130,29 +136,29 @@ fn take(mem: &[u32], d: u32, m: u32, t: u32, visits: u32) -> Taken
     requires { ⌜ Enough (now mem) ⌝ ∗ ⌜ d < domainsMost ⌝ ∗ ⌜ m < mailboxes ⌝ ∗ ⌜ visits < 8 ⌝ }
     ensures { λ r. ⌜ Takes r (stateOf (now (mem .entry))) d m t visits ⌝ }
 {
-    if t >= 64 {
+    if t >= SLOTS {
         return taking(Effect::Take(m), 0, visits);
     }
-    let under = layout::see(mem, 1024 + m, visits);
+    let under = layout::see(mem, ALL_SLOTS + m, visits);
     if under.capability.kind == 0 {
         return taking(Effect::Take(m), 0, under.visits);
     }
-    let to = layout::see(mem, d * 64 + t, under.visits);
+    let to = layout::see(mem, d * SLOTS + t, under.visits);
     if to.capability.kind != 0 {
         return taking(Effect::Take(m), 0, to.visits);
     }
-    taking(Effect::Move(m, d * 64 + t), 1, to.visits)
+    taking(Effect::Move(m, d * SLOTS + t), 1, to.visits)
 }
 
 pub fn receive(mem: &[u32], d: u32, x: u32, t: u32) -> Decided
     requires { ⌜ Enough (now mem) ⌝ ∗ ⌜ d < domainsMost ⌝ }
     ensures { λ r. ⌜ Decides r (receiveRule (stateOf (now (mem .entry))) d x t) (looksReceive (stateOf (now (mem .entry))) d x t) ⌝ }
 {
-    let k = slot_for(mem, d, x, 2, 1);
+    let k = slot_for(mem, d, x, MAILBOX, READ);
     if k.refusal != 0 {
         return refused(k.refusal, k.visits);
     }
-    if t > 64 {
+    if t > SLOTS {
         return refused(2, k.visits);
     }
     let m = k.capability.object;

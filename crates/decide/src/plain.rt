@@ -7,9 +7,16 @@ use crate::look::nothing;
 use crate::look::refused;
 use crate::look::slot_for;
 use rules::Answer;
+use rules::BADGE_MOST;
+use rules::BELL;
 use rules::Capability;
 use rules::Decision;
 use rules::Effect;
+use rules::FRAME;
+use rules::FRAME_WORDS;
+use rules::READ;
+use rules::SLOTS;
+use rules::WRITE;
 ghost use mathlib.Core.Path.{_≡_};
 ghost use mathlib.Core.Bool.{cond};
 ghost use Prim.Native.Nat.{_≤_, _<_};
@@ -31,11 +38,11 @@ fn word_for(mem: &[u32], d: u32, x: u32, w: u32, right: u32) -> Looked
     requires { ⌜ Enough (now mem) ⌝ ∗ ⌜ d < domainsMost ⌝ }
     ensures { λ r. ⌜ Looks r (stateOf (now (mem .entry))) d x (wordFor (stateOf (now (mem .entry))) d x w right) 0 ⌝ }
 {
-    let k = slot_for(mem, d, x, 1, right);
+    let k = slot_for(mem, d, x, FRAME, right);
     if k.refusal != 0 {
         return k;
     }
-    if w >= 256 {
+    if w >= FRAME_WORDS {
         return Looked {
             refusal: 6,
             capability: nothing(),
@@ -49,7 +56,7 @@ pub fn load(mem: &[u32], d: u32, x: u32, w: u32) -> Decided
     requires { ⌜ Enough (now mem) ⌝ ∗ ⌜ d < domainsMost ⌝ }
     ensures { λ r. ⌜ Decides r (loadRule (stateOf (now (mem .entry))) d x w) (seen x) ⌝ }
 {
-    let k = word_for(mem, d, x, w, 1);
+    let k = word_for(mem, d, x, w, READ);
     if k.refusal != 0 {
         return refused(k.refusal, k.visits);
     }
@@ -64,7 +71,7 @@ pub fn store(mem: &[u32], d: u32, x: u32, w: u32, v: u32) -> Decided
     requires { ⌜ Enough (now mem) ⌝ ∗ ⌜ d < domainsMost ⌝ }
     ensures { λ r. ⌜ Decides r (storeRule (stateOf (now (mem .entry))) d x w v) (seen x) ⌝ }
 {
-    let k = word_for(mem, d, x, w, 2);
+    let k = word_for(mem, d, x, w, WRITE);
     if k.refusal != 0 {
         return refused(k.refusal, k.visits);
     }
@@ -100,18 +107,18 @@ pub fn derive(mem: &[u32], d: u32, x: u32, t: u32, r: u32, b: u32) -> Decided
     if k.refusal != 0 {
         return refused(k.refusal, k.visits);
     }
-    if t >= 64 {
+    if t >= SLOTS {
         return refused(2, k.visits);
     }
-    let free = layout::see(mem, d * 64 + t, k.visits);
+    let free = layout::see(mem, d * SLOTS + t, k.visits);
     if free.capability.kind != 0 {
         return refused(7, free.visits);
     }
-    if b > 65535 {
+    if b > BADGE_MOST {
         return refused(6, free.visits);
     }
     done(
-        Effect::Put(d * 64 + t, derived(k.capability, d * 64 + x, r, b)),
+        Effect::Put(d * SLOTS + t, derived(k.capability, d * SLOTS + x, r, b)),
         0,
         free.visits,
     )
@@ -125,7 +132,7 @@ pub fn delete(mem: &[u32], d: u32, x: u32) -> Decided
     if k.refusal != 0 {
         return refused(k.refusal, k.visits);
     }
-    done(Effect::Drop(d * 64 + x), 0, k.visits)
+    done(Effect::Drop(d * SLOTS + x), 0, k.visits)
 }
 
 pub fn revoke(mem: &[u32], d: u32, x: u32) -> Decided
@@ -136,14 +143,14 @@ pub fn revoke(mem: &[u32], d: u32, x: u32) -> Decided
     if k.refusal != 0 {
         return refused(k.refusal, k.visits);
     }
-    done(Effect::Prune(d * 64 + x), 0, k.visits)
+    done(Effect::Prune(d * SLOTS + x), 0, k.visits)
 }
 
 pub fn ring(mem: &[u32], d: u32, x: u32) -> Decided
     requires { ⌜ Enough (now mem) ⌝ ∗ ⌜ d < domainsMost ⌝ }
     ensures { λ r. ⌜ Decides r (ringRule (stateOf (now (mem .entry))) d x) (seen x) ⌝ }
 {
-    let k = slot_for(mem, d, x, 3, 2);
+    let k = slot_for(mem, d, x, BELL, WRITE);
     if k.refusal != 0 {
         return refused(k.refusal, k.visits);
     }
@@ -158,7 +165,7 @@ pub fn hear(mem: &[u32], d: u32, x: u32) -> Decided
     requires { ⌜ Enough (now mem) ⌝ ∗ ⌜ d < domainsMost ⌝ }
     ensures { λ r. ⌜ Decides r (hearRule (stateOf (now (mem .entry))) d x) (seen x) ⌝ }
 {
-    let k = slot_for(mem, d, x, 3, 1);
+    let k = slot_for(mem, d, x, BELL, READ);
     if k.refusal != 0 {
         return refused(k.refusal, k.visits);
     }

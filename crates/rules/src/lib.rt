@@ -1,8 +1,39 @@
-// What the written rules (specs/) and the kernel's code share: the plain data of documents 01 and 03, and no function.
-// Numbers stand for everything, and 0 for nothing: kind 0 is an empty place, source 0 is no source, and source p + 1 is
-// place p.
+// What the written rules (specs/) and the kernel's code share: the plain data of documents 01 and 03, and no function; and the sizes of
+// specs/Sizes, each named here once for the code. Numbers stand for everything, and 0 for nothing: kind 0 is an empty place, source 0 is
+// no source, and source p + 1 is place p.
 
-// What a place holds. Kind 1 is a frame, 2 a mailbox, 3 a bell.
+// Domains are 0 to 15 at most.
+pub const DOMAINS_MOST: u32 = 16;
+
+// The slots of a domain, and of all domains: where the mailboxes' rooms begin. As a slot argument of SEND and RECEIVE the first means no slot.
+pub const SLOTS: u32 = 64;
+
+pub const ALL_SLOTS: u32 = DOMAINS_MOST * SLOTS;
+
+pub const MAILBOXES: u32 = 64;
+
+// The slots of all domains and the mailboxes' rooms.
+pub const PLACES: u32 = ALL_SLOTS + MAILBOXES;
+
+pub const FRAME_WORDS: u32 = 256;
+
+pub const BADGE_MOST: u32 = 65535;
+
+// The kinds of capability.
+pub const FRAME: u32 = 1;
+
+pub const MAILBOX: u32 = 2;
+
+pub const BELL: u32 = 3;
+
+// The rights.
+pub const READ: u32 = 1;
+
+pub const WRITE: u32 = 2;
+
+pub const GRANT: u32 = 4;
+
+// What a place holds.
 pub struct Capability {
     pub kind: u32,
     pub rights: u32,

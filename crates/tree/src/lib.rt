@@ -4,6 +4,7 @@ use layout::hand_over;
 use layout::place;
 use layout::source_of;
 use rules::Capability;
+use rules::PLACES;
 ghost use mathlib.Core.Path.{_≡_};
 ghost use mathlib.Core.Bool.{cond};
 ghost use Prim.Native.Nat.{suc, _+_, _*_, _≤_, _<_};
@@ -16,9 +17,8 @@ ghost use Rattle.tree.specs.Tree.{placesOf, dropping, pruning, handing, 
 ghost use Rattle.tree.specs.Marks.{Blank, Marks, Swept, Closed, chosen, toEmpty, clearing, emptying};
 ghost use Rattle.tree.specs.Sweeps.{marking, marksTo, Searched, PruneVisits};
 
-const PLACES: u32 = 1088;
-
-const SOURCES: usize = 1089;
+// A source number is 0 or a place's number and one.
+const SOURCES: usize = PLACES as usize + 1;
 
 // One visit: place p is empty.
 fn empty(mem: &mut [u32], p: u32, visits: u32) -> u32

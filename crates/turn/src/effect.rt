@@ -1,5 +1,7 @@
 // The effects, performed without any check. On memory that is not good an object may be none that there is: then nothing is stored.
+use rules::ALL_SLOTS;
 use rules::Capability;
+use rules::MAILBOXES;
 use rules::Message;
 ghost use mathlib.Core.Path.{_≡_};
 ghost use Prim.Native.Nat.{_<_};
@@ -44,10 +46,10 @@ pub fn post(mem: &mut [u32], m: u32, g: Message, c: Capability, visits: u32) -> 
     requires { ⌜ Enough (now mem) ⌝ ∗ ⌜ visits < 8 ⌝ }
     ensures { λ r. ⌜ Applied (now (mem .entry)) (Post m g c) (now (mem .exit)) visits r ⌝ }
 {
-    if m >= 64 {
+    if m >= MAILBOXES {
         return visits;
     }
-    let n = layout::place(mem, 1024 + m, c, visits);
+    let n = layout::place(mem, ALL_SLOTS + m, c, visits);
     layout::set_message(mem, m, g);
     n
 }
@@ -78,10 +80,10 @@ pub fn move_to(mem: &mut [u32], m: u32, p: u32, visits: u32) -> u32
     requires { ⌜ Enough (now mem) ⌝ ∗ ⌜ p < places ⌝ ∗ ⌜ visits < 4 ⌝ }
     ensures { λ r. ⌜ Applied (now (mem .entry)) (Move m p) (now (mem .exit)) visits r ⌝ }
 {
-    if m >= 64 {
+    if m >= MAILBOXES {
         return visits;
     }
-    let under = layout::see(mem, 1024 + m, visits);
+    let under = layout::see(mem, ALL_SLOTS + m, visits);
     let n = take(mem, m, under.visits);
     layout::place(mem, p, under.capability, n)
 }
