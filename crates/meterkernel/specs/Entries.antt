@@ -1,5 +1,5 @@
--- The contract of mk_turn: a turn through the C interface, with the operation and the answer in lent words. The other entries' contracts
--- are those of the functions that they call: Booted, Whose, Wrote, Flows, Held. Assumes nothing.
+-- The contracts of mk_turn, a turn through the C interface with the operation and the answer in lent words, and of mk_write. The other
+-- entries' contracts are those of the functions that they call: Booted, Whose, Flows, Held. Assumes nothing.
 use mathlib.Core.Path.{_≡_}
 use mathlib.Core.List.{List}
 use mathlib.Core.Logic.{_⊎_}
@@ -9,6 +9,7 @@ use Rattle.rules.specs.declared.Operation.{Operation}
 use Rattle.rules.specs.declared.Answer.{Answer}
 use Rattle.layout.specs.Layout.{need, Enough}
 use Rattle.turn.specs.Turned.{Turned}
+use Rattle.write.specs.Written.{Wrote}
 
 -- an operation is its number and seven arguments; an answer has six words beside its status
 abbrev pub operationWords : ℕ
@@ -50,6 +51,14 @@ pub record TurnCalled (m op a n b : List ℕ) (r : ℕ) : Type 0 where
   -- the words behind the answer's six are kept
   pub long : length b ≡ length a
   pub behind : (k : ℕ) → answerWords ≤ k → getD b k 0 ≡ getD a k 0
+
+-- mk_write of memory m into the buffer b, with z where the size is to go: the result is r, the buffer becomes c, and z becomes y
+pub record WriteCalled (m b : List ℕ) (z r : ℕ) (c : List ℕ) (y : ℕ) : Type 0 where
+  pub size : ℕ
+  pub wrote : Wrote m b r size c
+  pub told : r ≡ 0 → y ≡ size
+  -- a refusal changes nothing
+  pub left : (r ≡ 0 → ⊥) → y ≡ z
 
 -- on the way there: the six words of answer x were told, and the words behind them are kept
 pub record Told (x : Answer) (a b : List ℕ) : Type 0 where

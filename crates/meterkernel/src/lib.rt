@@ -2,6 +2,7 @@
 // calls but in the memory that the caller lends. A slice is a pointer and a length, in two parameters of C.
 use rules::Answer;
 use rules::Operation;
+use write::Written;
 ghost use mathlib.Core.Path.{_≡_};
 ghost use Prim.Native.Nat.{_≤_};
 ghost use lib.ListN.{length};
@@ -9,7 +10,7 @@ ghost use Rattle.layout.specs.Layout.{wordsOf};
 ghost use Rattle.turn.specs.Turned.{Whose};
 ghost use Rattle.boot.specs.Booted.{Booted};
 ghost use Rattle.flow.specs.Answer.{Flows, Held};
-ghost use Rattle.meterkernel.specs.Entries.{operationWords, answerWords, operationIn, Told, TurnCalled};
+ghost use Rattle.meterkernel.specs.Entries.{operationWords, answerWords, operationIn, Told, TurnCalled, WriteCalled};
 
 // An operation's words, and those of an answer beside its status.
 const OPERATION: usize = 8;
@@ -90,6 +91,24 @@ pub extern "C" fn mk_turn(mem: &mut [u32], op: &[u32], answer: &mut [u32]) -> u3
     let t = turn::turn(mem, operation(op));
     tell(answer, t.answer);
     t.answer.status
+}
+
+// A size where the image was written, else the number that stood there.
+fn sized(w: Written, before: u32) -> u32
+    ensures { λ r. ⌜ ((w .status ≡ 0) → r ≡ w .size) × ((w .status ≡ 0 → ⊥) → r ≡ before) ⌝ }
+{
+    if w.status == 0 { w.size } else { before }
+}
+
+// The image of the state in memory, and its size: 0; or 29 where memory is too short, 27 where no image describes the state, 28 where the
+// buffer is too short, and then nothing has changed.
+#[no_mangle]
+pub extern "C" fn mk_write(mem: &[u32], image: &mut [u8], size: &mut u32) -> u32
+    ensures { λ r. ⌜ WriteCalled (now (mem .entry)) (now (image .entry)) (now (size .entry)) r (now (image .exit)) (now (size .exit)) ⌝ }
+{
+    let w = write::write(mem, image);
+    *size = sized(w, *size);
+    w.status
 }
 
 // Who can reach whom, by an image: 1 or 0 at from * D + to; or the image's refusal, or 28 where matrix is shorter than D * D.
