@@ -93,6 +93,11 @@ uint32_t mk_whose(const uint32_t *mem, size_t words);
  * words go to answer. 29 where memory, op or answer is too short: then nothing has changed, nor has the turn been taken. */
 uint32_t mk_turn(uint32_t *mem, size_t words, const uint32_t *op, size_t op_words, uint32_t *answer, size_t answer_words);
 
+/* Writes the image of the state in memory, and its number of bytes to *size. 0; or 29 where the memory is too short for the state that it
+ * claims to hold; 27 unless its mailboxes are empty, its frames and bells all 0 and its position is 0; 28 where n is too small
+ * (MK_IMAGE_MOST is enough for every state). Bytes behind the image are left alone, and a refusal changes neither buffer nor *size. */
+uint32_t mk_write(const uint32_t *mem, size_t words, uint8_t *image, size_t n, uint32_t *size);
+
 /* Who can reach whom in an image, by whatever its domains do: matrix[from * D + to] is 1 where there is a flow and 0 where there is
  * none, D being image[0]. 0, or 20 to 26 for the image, or 28 where m is less than D * D. */
 uint32_t mk_flow(const uint8_t *image, size_t n, uint8_t *matrix, size_t m);

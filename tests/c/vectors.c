@@ -97,6 +97,44 @@ static void answers(const char *name) {
     free(expected);
 }
 
+static void written(const char *name) {
+    size_t n, en;
+    unsigned char *trace = part(name, "trace", &n), *expected = part(name, "written", &en);
+    size_t length = number_at(trace);
+    struct machine m = made(trace + 4, length);
+    uint32_t status = boot(&m), size = 0x5a5a5a5a;
+    unsigned char first[4];
+    int right = 1;
+    if (status == 0) {
+        struct lent buffer = lend(MK_IMAGE_MOST, 0);
+        memset(buffer.bytes, 0x5a, MK_IMAGE_MOST);
+        run(&m, trace, n, 4 + length, NULL);
+        status = mk_write(words_of(&m), m.words, buffer.bytes, MK_IMAGE_MOST, &size);
+        right = status == 0 ? size == en - 4 && memcmp(buffer.bytes, expected + 4, en - 4) == 0 : size == 0x5a5a5a5a;
+        for (uint32_t i = status == 0 ? size : 0; i < MK_IMAGE_MOST; i++) right = right && buffer.bytes[i] == 0x5a;
+        if (status == 0) {
+            /* a buffer of just that length will do, one byte less won't, and what was written boots to the same memory */
+            struct lent exact = lend(size, 0), small = lend(size - 1, 1);
+            struct machine again;
+            memset(small.bytes, 0x5a, size - 1);
+            right = right && mk_write(words_of(&m), m.words, exact.bytes, size, &size) == 0 && memcmp(exact.bytes, buffer.bytes, size) == 0;
+            right = right && mk_write(words_of(&m), m.words, small.bytes, size - 1, &size) == MK_BUFFER_SHORT && size == en - 4;
+            for (uint32_t i = 0; i + 1 < size; i++) right = right && small.bytes[i] == 0x5a;
+            again = made(exact.bytes, size);
+            right = right && boot(&again) == 0 && again.words == m.words && memcmp(again.memory.bytes, m.memory.bytes, 4 * m.words) == 0;
+            unmade(&again);
+            give_back(&exact);
+            give_back(&small);
+        }
+        give_back(&buffer);
+    }
+    put_number(first, status);
+    told("C written", name, right && en == 4 + (status == 0 ? size : 0) && memcmp(first, expected, 4) == 0);
+    unmade(&m);
+    free(trace);
+    free(expected);
+}
+
 static void flows(const char *name) {
     size_t n, en;
     unsigned char *image = part(name, "image", &n), *expected = part(name, "flow", &en);
@@ -213,6 +251,7 @@ int main(int argc, char **argv) {
     }
     folder = argv[1];
     each("answers", answers);
+    each("written", written);
     each("flow", flows);
     each("hold", holds);
     return bad;
