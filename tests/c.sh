@@ -9,10 +9,11 @@ out=$(mktemp -d) || exit 2
 trap 'rm -rf "$out"' EXIT
 
 if [ "$(uname -m)" = x86_64 ]; then
-  compiler=(cc) turns=500000 images=2000000
+  compiler=(cc) symbols=nm turns=500000 images=2000000
 else
-  compiler=(x86_64-linux-gnu-gcc -static) turns=50000 images=200000
-  command -v "${compiler[0]}" >/dev/null 2>&1 || apt-get -qq install -y gcc-x86-64-linux-gnu >"$out/install" 2>&1 || cat "$out/install"
+  compiler=(x86_64-linux-gnu-gcc -static) symbols=x86_64-linux-gnu-nm turns=50000 images=200000
+  command -v "${compiler[0]}" >/dev/null 2>&1 ||
+    apt-get -qq install -y gcc-x86-64-linux-gnu libc6-dev-amd64-cross >"$out/install" 2>&1 || cat "$out/install"
 fi
 
 build() { # NAME SOURCE..: strictly, as C99
@@ -36,8 +37,8 @@ fenced() { sed -n "/^\`\`\`$1\$/,/^\`\`\`\$/p" docs/EMBEDDING.md | sed '1d;$d'; 
 page_runs() { fenced c >"$out/page.c" && fenced text >"$out/page.expected" && build page "$out/page.c" && run page >"$out/page.out" && cmp "$out/page.out" "$out/page.expected"; }
 
 no_other_symbols() { # the library defines what the header names, and needs memcpy and memset alone
-  cmp -s <(nm -g --defined-only target/staticlib/libmeterkernel.a | sed -n 's/.* T //p' | sort) <(grep -oE '\bmk_[a-z_]+\(' include/meterkernel.h | tr -d '(' | sort -u) &&
-    ! nm -u target/staticlib/libmeterkernel.a | sed -n 's/^ *U //p' | grep -vE '^(memcpy|memset|memmove)$'
+  cmp -s <("$symbols" -g --defined-only target/staticlib/libmeterkernel.a | sed -n 's/.* T //p' | sort) <(grep -oE '\bmk_[a-z_]+\(' include/meterkernel.h | tr -d '(' | sort -u) &&
+    ! "$symbols" -u target/staticlib/libmeterkernel.a | sed -n 's/^ *U //p' | grep -vE '^(memcpy|memset|memmove)$'
 }
 
 check "the static library" rt staticlib meterkernel >"$out/staticlib" || cat "$out/staticlib"

@@ -83,6 +83,36 @@ static void turns(unsigned long n) {
     told("turns", done + short_ones, wrong);
 }
 
+/* The writer on memory full of random words, and on memory that was booted: a number that it may give, a size within the buffer, and
+ * nothing touched behind it or on a refusal. */
+static void written(unsigned long n) {
+    enum { ROOM = 600 };
+    unsigned long wrong = 0, done = 0;
+    size_t words = STATE + 256;
+    struct lent memory = lend(4 * words, 0), image = lend(ROOM, 0);
+    uint32_t *mem = (uint32_t *)(void *)memory.bytes;
+    for (unsigned long k = 0; k < n; k++) {
+        uint32_t size = 7, room = below(&chance, ROOM + 1), domains = 1 + below(&chance, 16);
+        unsigned char *b = image.bytes + ROOM - room;
+        memset(mem, 0, 4 * words);
+        mem[0] = below(&chance, 16) ? domains : some_word();
+        mem[FRAMES] = below(&chance, 16) ? 1 : some_word();
+        mem[2] = below(&chance, 16) ? 1 + below(&chance, 64) : some_word();
+        /* words here and there, wherever they fall: most of them among the places' fields */
+        for (uint32_t i = below(&chance, 20); i > 0; i--) mem[4 + 64 + below(&chance, below(&chance, 8) ? 5 * 1088 : (uint32_t)words - 68)] = some_word();
+        memset(b, 0x5a, room);
+        uint32_t r = mk_write(mem, words, b, room, &size);
+        int right = r == 0 ? size <= room : (r == MK_UNWRITABLE || r == MK_BUFFER_SHORT || r == MK_TOO_SHORT) && size == 7;
+        for (uint32_t i = r == 0 ? size : 0; i < room; i++) right = right && b[i] == 0x5a;
+        if (r == 0) done++;
+        if (!right && wrong++ == 0) printf("# writing number %lu: %u\n", k, r);
+    }
+    printf("# %lu written\n", done);
+    told("memory to write", n, wrong + (done == 0));
+    give_back(&memory);
+    give_back(&image);
+}
+
 /* Bytes that are an image more often than not, then perhaps damaged. */
 static size_t some_image(unsigned char *b, size_t room) {
     uint32_t d = 1 + below(&chance, 16), t = 1 + below(&chance, 64), c = below(&chance, below(&chance, 8) == 0 ? 200 : 12);
@@ -173,6 +203,7 @@ int main(int argc, char **argv) {
     chance.state = strtoull(argv[1], NULL, 10);
     printf("# seed %s\n", argv[1]);
     turns(strtoul(argv[2], NULL, 10));
+    written(strtoul(argv[2], NULL, 10));
     images(strtoul(argv[3], NULL, 10));
     return bad;
 }
