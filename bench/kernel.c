@@ -67,7 +67,7 @@ uint32_t plain_boot(struct kernel *k, const uint8_t *b, size_t n) {
     for (uint32_t c = two(b + 2); c > 0; c--, e += 12) {
         uint32_t p = e[0] * SLOTS + e[1];
         k->place[p] = (struct capability){ e[2], e[3], (uint16_t)two(e + 4), (uint16_t)two(e + 6) };
-        k->source[p] = (uint16_t)(e[8] == 255 ? 0 : e[8] * SLOTS + e[9] + 1);
+        k->source[p] = (source_number)(e[8] == 255 ? 0 : e[8] * SLOTS + e[9] + 1);
     }
     return 0;
 }
@@ -75,7 +75,7 @@ uint32_t plain_boot(struct kernel *k, const uint8_t *b, size_t n) {
 /* ---- the turn */
 
 static void drop(struct kernel *k, uint32_t p) {
-    uint16_t from = (uint16_t)(p + 1), to = k->source[p];
+    source_number from = (source_number)(p + 1), to = k->source[p];
     for (uint32_t q = 0; q < PLACES; q++) k->source[q] = k->source[q] == from ? to : k->source[q];
     memset(&k->place[p], 0, sizeof k->place[p]);
     k->source[p] = 0;
@@ -124,7 +124,7 @@ static uint32_t done(struct kernel *k, const uint32_t *op, uint32_t *a) {
         c.rights &= (uint8_t)op[3];
         if (c.badge == 0) c.badge = (uint16_t)op[4];
         k->place[mine + t] = c;
-        k->source[mine + t] = (uint16_t)(mine + s + 1);
+        k->source[mine + t] = (source_number)(mine + s + 1);
         return 0;
     case 4: drop(k, mine + s); return 0;
     case 5: prune(k, mine + s); return 0;
@@ -152,7 +152,7 @@ static uint32_t done(struct kernel *k, const uint32_t *op, uint32_t *a) {
         *m = (struct message){ 1, c.badge, { op[3], op[4], op[5], op[6] } };
         if (t < SLOTS) {
             k->place[DOMAINS * SLOTS + c.object] = k->place[mine + t];
-            k->source[DOMAINS * SLOTS + c.object] = (uint16_t)(mine + t + 1);
+            k->source[DOMAINS * SLOTS + c.object] = (source_number)(mine + t + 1);
         }
         return 0;
     }

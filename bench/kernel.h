@@ -17,11 +17,18 @@ struct capability {
     uint16_t object, badge;
 };
 
+/* A source is 0 for none, else its place and 1. 16 bits are enough; with -DWIDE it has a word, as in the kernel's memory. */
+#ifdef WIDE
+typedef uint32_t source_number;
+#else
+typedef uint16_t source_number;
+#endif
+
 struct kernel {
     uint32_t domains, frames, turns, position;
     uint8_t turn[TURNS];
     struct capability place[PLACES];
-    uint16_t source[PLACES]; /* 0 for none, else place + 1 */
+    source_number source[PLACES];
     uint32_t bell[BELLS];
     struct message box[BOXES];
     uint32_t word[FRAMES][WORDS];

@@ -11,7 +11,7 @@ trap 'rm -rf "$out"' EXIT
 if [ "$(uname -m)" = x86_64 ]; then
   compiler=(cc) symbols=nm turns=500000 images=2000000
 else
-  compiler=(x86_64-linux-gnu-gcc -static) symbols=x86_64-linux-gnu-nm turns=50000 images=200000
+  compiler=(x86_64-linux-gnu-gcc -static) symbols=x86_64-linux-gnu-nm turns=50000 images=100000
   command -v "${compiler[0]}" >/dev/null 2>&1 ||
     apt-get -qq install -y gcc-x86-64-linux-gnu libc6-dev-amd64-cross >"$out/install" 2>&1 || cat "$out/install"
 fi
