@@ -27,6 +27,7 @@ check "turn asks nothing" no_requires crates/turn/src/lib.rt turn
 check "whose asks nothing" no_requires crates/turn/src/lib.rt whose
 check "words asks nothing" no_requires crates/turn/src/lib.rt words
 check "the reader asks nothing" no_requires crates/boot/src/lib.rt read
+check "the writer asks nothing" no_requires crates/write/src/lib.rt write
 check "the image's refusal asks nothing" no_requires crates/image/src/lib.rt refusal
 check "flow asks nothing" no_requires crates/flow/src/lib.rt flow
 check "could_hold asks nothing" no_requires crates/flow/src/lib.rt could_hold

@@ -15,7 +15,6 @@ use Rattle.rules.proofs.Places.{same?}
 use Rattle.rules.specs.Sizes.{framesMost, places, bells, mailboxes, turnsMost, frameWords}
 use Rattle.rules.specs.State.{State, whose}
 use Rattle.rules.specs.declared.Capability.{Capability}
-use Rattle.layout.specs.declared.Head.{Head}
 use Rattle.layout.specs.Layout.{size, base, cells, listed, ofCells, stateOf, Headed, framesAt, wordsOf, need, HEAD, KIND, RIGHTS, OBJECT, BADGE, SOURCE, BELLS, FULL, FROM, W0, W1, W2, W3}
 
 -- a word of a region

@@ -7,7 +7,7 @@ use Prim.Native.Nat.{ℕ, zero, suc, _+_, _-_, _*_, _/_, _%_, _≤_, _<_}
 use native.Mathlib.Omega.{arith}
 use lib.Dec.{eqb, leb, ltb}
 use lib.ListN.{length, getD, take, drop, replicate, length-append, length-map, length-replicate, List·getD-eq-default}
-use lib.Seq.{sets, sets-eq, take-at, getD-append-add, getD-drop}
+use lib.Seq.{sets-eq, take-at, getD-append-add, getD-drop}
 use borrow.Author.Tests.{leb-true, ltb-true, ltb-false, eqb-false}
 use Rattle.rules.specs.Sizes.{slots, domainsMost, turnsMost, framesMost, mailboxes, bells, allSlots}
 use Rattle.rules.specs.State.{FRAME, MAILBOX, State, Places, slot, Holds, objects, WellFormed, Formed}

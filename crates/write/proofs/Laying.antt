@@ -5,7 +5,7 @@ use Prim.Native.Nat.{ℕ, zero, suc, _+_, _-_, _/_, _%_, _≤_, _<_}
 use native.Mathlib.Numerals.{add-one}
 use native.Mathlib.Omega.{arith}
 use lib.ListN.{length, set, take, getD, replicate, length-append, length-map, replicate-append-replicate}
-use lib.Seq.{sets, length-sets, take-suc, take-all}
+use lib.Seq.{sets, take-suc, take-all}
 use Rattle.rules.specs.Sizes.{slots}
 use Rattle.rules.specs.Image.{noDomain, sourceBytes}
 use Rattle.write.specs.Laid.{low, Laid}

@@ -5,9 +5,9 @@ use mathlib.Core.List.{List}
 use Prim.Native.Nat.{ℕ, _*_, _≤_, _<_}
 use native.Mathlib.Omega.{arith}
 use lib.Dec.{leb}
-use lib.ListN.{length, getD, take}
+use lib.ListN.{length}
 use borrow.Author.Tests.{leb-false, le-leb}
-use Rattle.rules.specs.Sizes.{slots, domainsMost, turnsMost, framesMost}
+use Rattle.rules.specs.Sizes.{slots}
 use Rattle.rules.specs.State.{State, slot, Formed}
 use Rattle.rules.specs.Image.{between, lengthFor, occupied, bytesFor, writable, image, unwritable, write}
 use Rattle.rules.proofs.Laws.{both, not-both}

@@ -3,11 +3,11 @@
 use layout::Head;
 ghost use mathlib.Core.Path.{_≡_};
 ghost use mathlib.Core.Bool.{_&&_};
-ghost use Rattle.rules.specs.Sizes.{frameWords, mailboxes, bells, domainsMost, turnsMost, framesMost};
+ghost use Rattle.rules.specs.Sizes.{mailboxes, bells, domainsMost, turnsMost, framesMost};
 ghost use Rattle.rules.specs.Image.{between, allBelow, writable};
 ghost use Rattle.layout.specs.Layout.{stateOf, Enough};
 ghost use Rattle.write.specs.Written.{sized};
-ghost use Rattle.write.specs.Laid.{empty, zeroWord, zeroFrame, zeroBell};
+ghost use Rattle.write.specs.Laid.{empty, zeroFrame, zeroBell};
 
 const MAILBOXES: u32 = 64;
 

@@ -105,10 +105,10 @@ fn entries(mem: &[u32], image: &mut [u8], i: usize, n: u32) -> usize
     ensures { λ r. ⌜ Laid (now (image .entry)) i (entriesFor (stateOf (now (mem .entry)) .capability) (occupied (stateOf (now (mem .entry)) .capability) n 0)) r (now (image .exit)) ⌝ }
 {
     let mut at = i;
-    let mut p = 0;
-    while p < n {
-        at = entry_of(mem, image, at, p);
-        p += 1;
+    let mut q = 0;
+    while q < n {
+        at = entry_of(mem, image, at, q);
+        q += 1;
     }
     at
 }

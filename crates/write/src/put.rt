@@ -1,7 +1,6 @@
 // Numbers written into a buffer as bytes, one behind the other: each function writes from byte i on and answers the next byte's index.
 // Numbers of two bytes have the high byte first; a number that no byte holds is written modulo 256.
 use rules::Capability;
-ghost use mathlib.Core.Path.{_≡_};
 ghost use mathlib.Core.List.{[], _∷_, _++_};
 ghost use Prim.Native.Nat.{_+_, _/_, _%_, _≤_, _<_};
 ghost use lib.ListN.{length, replicate};

@@ -9,10 +9,10 @@ use Rattle.write.proofs.entries.Statement.{statement}
 use Rattle.write.proofs.entries.Tie as tie
 
 abbrev Inv-loop : tie.InvT-loop
-Inv-loop mem image₀ i n at₀ p₀ image at p = (p ≤ n) × Laid image₀ i (entriesFor (stateOf mem .capability) (occupied (stateOf mem .capability) p 0)) at image
+Inv-loop mem image₀ i n at₀ q₀ image at q = (q ≤ n) × Laid image₀ i (entriesFor (stateOf mem .capability) (occupied (stateOf mem .capability) q 0)) at image
 
 abbrev μ-loop : tie.MeasureT-loop
-μ-loop mem image₀ i n at₀ p₀ image at p = n - p
+μ-loop mem image₀ i n at₀ q₀ image at q = n - q
 
 loop-holds : tie.Need-loop-holds Inv-loop μ-loop
 loop-holds c = (search needs, entries-begin _)
@@ -20,8 +20,8 @@ loop-holds c = (search needs, entries-begin _)
 entry-of-requires : tie.Need-entry-of-requires Inv-loop μ-loop
 entry-of-requires c κs = (search needs, (search needs, entries-room _ _ _ (c .before .loop-test .taken) (c .before .before .before .before .before .pre .1 .1) (c .before .before .loop .inv .1)))
 
-add-p : tie.Need-add-p Inv-loop μ-loop
-add-p c = search needs
+add-q : tie.Need-add-q Inv-loop μ-loop
+add-q c = search needs
 
 loop-less : tie.Need-loop-less Inv-loop μ-loop
 loop-less c = search needs
@@ -43,7 +43,7 @@ entries-spec =
     μ-loop
     loop-holds
     entry-of-requires
-    add-p
+    add-q
     loop-less
     loop-again
     same-length

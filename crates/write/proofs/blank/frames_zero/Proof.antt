@@ -5,7 +5,6 @@ use borrow.Author.Tests.{not-true, not-false}
 use mathlib.Core.Bool.{true}
 use Prim.Native.Nat.{_≤_, _-_}
 use borrow.Author.Needs.{needs}
-use native.Mathlib.Omega.{arith}
 use Rattle.rules.specs.Image.{allBelow}
 use Rattle.layout.specs.Layout.{stateOf}
 use Rattle.write.specs.Laid.{zeroFrame}

@@ -2,7 +2,6 @@
 use mathlib.Core.Path.{_≡_}
 use Rattle.write.proofs.Laying.{laid-none, zeros-more, zeros-end}
 use borrow.Author.Needs.{needs}
-use native.Mathlib.Omega.{arith}
 use Prim.Native.Nat.{_+_, _-_, _≤_}
 use lib.ListN.{replicate}
 use Rattle.write.specs.Laid.{Laid}
