@@ -110,7 +110,7 @@ module _ (s : State) (d : ℕ) (o : Operation) {x : Decision} (e : x ≡ decide 
 
 -- ---- the turn
 
-pub low : (w : ℕ) → w % 16 < domainsMost
+low : (w : ℕ) → w % 16 < domainsMost
 low w = mod-lt w (omega arith)
 
 -- what the test of the memory's length told

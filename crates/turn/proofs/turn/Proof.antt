@@ -1,7 +1,8 @@
 -- `turn::turn` meets its contract. Assumes nothing.
 use borrow.Author.Tests.{not-true, not-false}
 use Rattle.layout.proofs.Stores.{enough-kept}
-use Rattle.turn.proofs.Turning.{enough-of, low, apply-named, apply-allowed, turned-short, turned-done}
+use Rattle.turn.proofs.Turning.{enough-of, apply-named, apply-allowed, turned-short, turned-done}
+use native.Mathlib.Omega.{arith}
 use borrow.Author.Needs.{needs}
 use Rattle.turn.proofs.turn.Statement.{statement}
 use Rattle.turn.proofs.turn.Tie as tie
@@ -19,12 +20,12 @@ whose-requires : tie.Need-whose-requires
 whose-requires c κs = enough-of _ (c .before .before .enough .ensures) (not-false _ (c .before .if1 .left))
 
 decide-requires : tie.Need-decide-requires
-decide-requires c κs = (enough-of _ (c .before .before .before .before .enough .ensures) (not-false _ (c .before .before .before .if1 .left)), low _)
+decide-requires c κs = (enough-of _ (c .before .before .before .before .enough .ensures) (not-false _ (c .before .before .before .if1 .left)), omega arith)
 
 apply-requires : tie.Need-apply-requires
 apply-requires c κs =
     let d = c .before .before .before .decide .ensures in
-    (enough-of _ (c .before .before .before .before .before .before .before .before .enough .ensures) (not-false _ (c .before .before .before .before .before .before .before .if1 .left)), (apply-named _ _ _ (d .decision) (low _), apply-allowed _ _ _ (d .decision) (d .visits) (search needs)))
+    (enough-of _ (c .before .before .before .before .before .before .before .before .enough .ensures) (not-false _ (c .before .before .before .before .before .before .before .if1 .left)), (apply-named _ _ _ (d .decision) (omega arith), apply-allowed _ _ _ (d .decision) (d .visits) (search needs)))
 
 move-on-requires : tie.Need-move-on-requires
 move-on-requires c κs = enough-kept (c .before .before .before .apply .ensures .stored) (enough-of _ (c .before .before .before .before .before .before .before .before .before .before .before .before .enough .ensures) (not-false _ (c .before .before .before .before .before .before .before .before .before .before .before .if1 .left)))

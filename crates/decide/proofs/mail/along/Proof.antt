@@ -25,7 +25,7 @@ nothing-requires-3 : tie.Need-nothing-requires-3
 nothing-requires-3 c κs = search needs
 
 returns-3 : tie.Need-returns-3
-returns-3 c = record { refusal = search checks depth 7; capability = never 5 refl; visits = search along-no-grant }
+returns-3 c = record { refusal = search checks depth 7; capability = never 5 refl; visits = search (along-no-grant, arith) }
 
 mul-see : tie.Need-mul-see
 mul-see c = search needs
