@@ -254,9 +254,9 @@ fn hold_all(image: &[u8], cells: &[u32], rows: &[u32], out: &mut [u8], n: usize)
 pub fn could_hold(image: &[u8], out: &mut [u8]) -> u32
     ensures { λ r. ⌜ Held (now (image .entry)) (now (out .entry)) r (now (out .exit)) ⌝ }
 {
-    let refused = refusal(image);
-    if 0 < refused {
-        return refused;
+    let reason = refusal(image);
+    if 0 < reason {
+        return reason;
     }
     let n = count(image);
     if out.len() < domains(image) * n {
@@ -347,8 +347,8 @@ fn derives(image: &[u8], flows: &mut [u32])
     ensures { λ r. ⌜ Added (Source (now (image .entry))) 0 (sizeC (now (image .entry))) (now (flows .entry)) (now (flows .exit)) ⌝ }
 {
     let n = count(image);
-    for i in 0..n {
-        derive(image, flows, i);
+    for e in 0..n {
+        derive(image, flows, e);
     }
 }
 

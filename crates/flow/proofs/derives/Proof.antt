@@ -1,4 +1,4 @@
--- `flow::derives` meets its contract. The invariant: the rows have the direct flow of the entries below i. Assumes nothing.
+-- `flow::derives` meets its contract. The invariant: the rows have the direct flow of the entries below e. Assumes nothing.
 use Prim.Native.Nat.{_-_, _≤_}
 use Rattle.flow.specs.Edges.{Source, Added}
 use Rattle.flow.proofs.Closure.{added-none, added-more, added-last}
@@ -7,10 +7,10 @@ use Rattle.flow.proofs.derives.Statement.{statement}
 use Rattle.flow.proofs.derives.Tie as tie
 
 abbrev Inv-loop : tie.InvT-loop
-Inv-loop image flows₀ n i₀ flows i = (i ≤ n) × Added (Source image) 0 i flows₀ flows
+Inv-loop image flows₀ n e₀ flows e = (e ≤ n) × Added (Source image) 0 e flows₀ flows
 
 abbrev μ-loop : tie.MeasureT-loop
-μ-loop image flows₀ n i₀ flows i = n - i
+μ-loop image flows₀ n e₀ flows e = n - e
 
 count-requires : tie.Need-count-requires Inv-loop μ-loop
 count-requires c κs = search needs
@@ -21,8 +21,8 @@ loop-holds c = (search needs, added-none _)
 derive-requires : tie.Need-derive-requires Inv-loop μ-loop
 derive-requires c κs = search needs
 
-add-i : tie.Need-add-i Inv-loop μ-loop
-add-i c = search needs
+add-e : tie.Need-add-e Inv-loop μ-loop
+add-e c = search needs
 
 loop-less : tie.Need-loop-less Inv-loop μ-loop
 loop-less c = search needs
@@ -45,7 +45,7 @@ derives-spec =
     count-requires
     loop-holds
     derive-requires
-    add-i
+    add-e
     loop-less
     loop-again
     same-length
