@@ -23,12 +23,14 @@ each_crate_listed() {
   return $all
 }
 
-# Each statement of specs/ has a proof in proofs/ whose type is its name.
+# Each statement of a crate's specs/ has a proof in its proofs/ whose type is its name.
 each_statement_proved() {
-  local missing=0 name
-  for name in $(sed -nE 's/^abbrev pub ([A-Z][A-Za-z0-9]*) : Type 0$/\1/p' $specs/Authority.antt $specs/History.antt $specs/Partition.antt $specs/RoundTrip.antt); do
-    case $name in Program | Programs) continue ;; esac
-    grep -rqE "^ *pub [a-z0-9-]+ : $name\$" crates/rules/proofs || { echo "# $name has no proof"; missing=1; }
+  local missing=0 file name
+  for file in $specs/Authority.antt $specs/History.antt $specs/Partition.antt $specs/RoundTrip.antt crates/write/specs/RoundTrip.antt; do
+    for name in $(sed -nE 's/^abbrev pub ([A-Z][A-Za-z0-9]*) : Type 0$/\1/p' "$file"); do
+      case $name in Program | Programs) continue ;; esac
+      grep -rqE "^ *pub [a-z0-9-]+ : $name\$" "${file%/specs/*}/proofs" || { echo "# $name has no proof"; missing=1; }
+    done
   done
   return $missing
 }

@@ -9,7 +9,7 @@ use lib.Dec.{eqb, leb, ltb}
 use lib.ListN.{length, getD, take, drop, replicate, length-append, length-map, length-replicate, List·getD-eq-default}
 use lib.Seq.{sets-eq, take-at, getD-append-add, getD-drop}
 use borrow.Author.Tests.{leb-true, ltb-true, ltb-false, eqb-false}
-use Rattle.rules.specs.Sizes.{slots, domainsMost, turnsMost, framesMost, mailboxes, bells, allSlots}
+use Rattle.rules.specs.Sizes.{slots, domainsMost, turnsMost, framesMost, mailboxes, bells, entriesMost, allSlots}
 use Rattle.rules.specs.State.{FRAME, MAILBOX, State, Places, slot, Holds, objects, WellFormed, Formed}
 use Rattle.rules.specs.Turn.{present}
 use Rattle.rules.specs.Image.{Bytes, headerBytes, entryBytes, padded, entriesAt, lengthFor, between, bytesOf, sourceBytes, entryFor, occupied, entriesFor, bytesFor}
@@ -19,58 +19,62 @@ use Rattle.rules.proofs.RoundTripEntries.{occupied-most, entries-bytes}
 use Rattle.layout.specs.Layout.{Headed}
 use Rattle.layout.specs.declared.Head.{Head}
 use Rattle.write.specs.Written.{sized}
-use Rattle.write.specs.Laid.{low, Laid}
+use Rattle.write.specs.Laid.{low, Laid, Ready}
 use Rattle.write.proofs.Laying.{laid-as}
 
 -- ---- sizes and length
-
--- the sizes are in range
-pub record Ranged (s : State) : Type 0 where
-  pub domains : s .domains ≤ domainsMost
-  pub turns : length (s .turns) ≤ turnsMost
-  pub frames : s .frames ≤ framesMost
 
 range-most : (most n : ℕ) → between 1 most n ≡ true → n ≤ most
 unfolding between
 range-most most n h = leb-true n most (both (leb 1 n) (leb n most) h .1)
 
--- the test tells this
-pub ranged : (s : State) → sized s ≡ true → Ranged s
+-- what the test of the sizes tells
+pub in-range : (s : State) → sized s ≡ true → (s .domains ≤ domainsMost) × (length (s .turns) ≤ turnsMost)
 unfolding sized
-ranged s h =
+in-range s h =
     let d = between 1 domainsMost (s .domains) in
     let t = between 1 turnsMost (length (s .turns)) in
-    let f = between 1 framesMost (s .frames) in
-    let (g, k) = both (d && t) f h in
-    let (l, m) = both d t g in
-    record { domains = range-most _ _ l; turns = range-most _ _ m; frames = range-most _ _ k }
+    let (l, m) = both d t (both (d && t) (between 1 framesMost (s .frames)) h .0) in
+    (range-most _ _ l, range-most _ _ m)
 
 -- the slots of the state's domains
 pub slots-of : (at : Places) (d e : ℕ) → d ≡ e → occupied at (d * slots) 0 ≡ occupied at (slot e 0) 0
 slots-of at d e h = ap (λ n. occupied at n 0) (let g : d * slots ≡ slot e 0 = omega arith in g)
 
--- the image's length, by what T and C give
-pub size-law : (s : State) → length (bytesFor s) ≡ lengthFor (length (s .turns)) (length (occupied (s .capability) (slot (s .domains) 0) 0))
+-- the image's length is what T and C give
+pub size-law : (s : State) → lengthFor (length (s .turns)) (length (occupied (s .capability) (slot (s .domains) 0) 0)) ≡ length (bytesFor s)
 unfolding bytesFor lengthFor entriesAt padded
 size-law s = simp (length-append, length-replicate, entries-bytes) (omega arith)
 
--- the same, written out
-pub room-law : (s : State) → length (bytesFor s)
-    ≡ headerBytes + (length (s .turns) + 3) / 4 * 4 + entryBytes * length (occupied (s .capability) (slot (s .domains) 0) 0)
-unfolding lengthFor entriesAt padded
-room-law s = size-law s
-
 -- no more entries than slots
-pub entries-most : (s : State) → Ranged s → length (occupied (s .capability) (slot (s .domains) 0) 0) ≤ allSlots
-entries-most s r = omega (arith, occupied-most (s .capability) (slot (s .domains) 0) 0)
+pub entries-most : (s : State) (n : ℕ) → s .domains ≤ domainsMost → n ≡ length (occupied (s .capability) (slot (s .domains) 0) 0) → n ≤ entriesMost
+entries-most s n h e = omega (arith, occupied-most (s .capability) (slot (s .domains) 0) 0)
+
+-- nothing more is known before the first byte is written
+pub ready : (s : State) {t n long size : ℕ} → sized s ≡ true → t ≡ length (s .turns) → n ≡ length (occupied (s .capability) (slot (s .domains) 0) 0)
+    → size ≡ lengthFor t n → size ≤ long → Ready s n long
+unfolding lengthFor entriesAt padded
+ready s {t} {n} {long} {size} h e f k l =
+    let (d, u) = in-range s h in
+    let z : size ≡ headerBytes + (t + 3) / 4 * 4 + entryBytes * n = k in
+    record { domains = d; turns = u; count = f; fits = omega arith }
+
+-- there is room for the entries behind the header, the table and the padding
+pub entries-fit : (s : State) (h : Head) {n long i j at now : ℕ} → Headed s h → Ready s n long → i ≡ headerBytes → j ≡ i + length (s .turns)
+    → at ≡ j + length (replicate {A = ℕ} ((h .turns + 3) / 4 * 4 - h .turns) 0) → now ≡ long
+    → at + entryBytes * length (occupied (s .capability) (h .domains * slots) 0) ≤ now
+entries-fit s h e r f g k l =
+    let z = length-replicate {A = ℕ} ((h .turns + 3) / 4 * 4 - h .turns) 0 in
+    let o = ap length (slots-of (s .capability) _ _ (e .domains)) in
+    omega arith
 
 -- the header, the table, the padding and the entries are the image
-pub filled : {b c : List ℕ} {j : ℕ} (s : State) (h : Head) (n : ℕ) → Headed s h → n ≡ length (occupied (s .capability) (slot (s .domains) 0) 0)
+pub filled : {b c : List ℕ} {j long : ℕ} (s : State) (h : Head) (n : ℕ) → Headed s h → Ready s n long
     → Laid b 0 (((h .domains ∷ h .turns ∷ []) ++ (bytesOf n ++ (bytesOf (h .frames) ++ (0 ∷ 0 ∷ []))))
     ++ (s .turns ++ (replicate ((h .turns + 3) / 4 * 4 - h .turns) 0 ++ entriesFor (s .capability) (occupied (s .capability) (h .domains * slots) 0)))) j c
     → Laid b 0 (bytesFor s) j c
 unfolding bytesFor padded
-filled s h n e f l = laid-as (rw (slots-of (s .capability) _ _ (e .domains), f, e .domains, e .turns, e .frames)) l
+filled s h n e r l = laid-as (rw (slots-of (s .capability) _ _ (e .domains), r .count, e .domains, e .turns, e .frames)) l
 
 -- ---- bytes
 

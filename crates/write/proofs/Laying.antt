@@ -44,11 +44,6 @@ laid-as {b} {c} {i} {j} e l = rw e at l
 
 -- ---- the bytes of a source
 
-pub source-length : (x : ℕ) → length (sourceBytes x) ≡ 2
-unfolding sourceBytes
-source-length zero = refl
-source-length (suc p) = refl
-
 pub source-none : {b c : List ℕ} {i j : ℕ} (x : ℕ) → x ≡ 0 → Laid b i (noDomain ∷ 0 ∷ []) j c → Laid b i (sourceBytes x) j c
 unfolding sourceBytes
 source-none x e l = laid-as (sym (ap sourceBytes e)) l

@@ -14,7 +14,6 @@ use Rattle.rules.proofs.Laws.{both, not-both}
 use Rattle.layout.specs.Layout.{stateOf, need, Enough, Headed}
 use Rattle.layout.specs.declared.Head.{Head}
 use Rattle.turn.specs.Turned.{Good}
-use Rattle.turn.proofs.Turning.{enough-of}
 use Rattle.write.specs.Written.{sized, Wrote}
 use Rattle.write.specs.Laid.{Laid}
 use Rattle.write.proofs.Filling.{slots-of, size-law, bytes-written, laid-front, laid-behind}
@@ -70,14 +69,10 @@ wrote-short {m} {b} e z =
       written = λ g. absurd (let w = g .enough in omega arith);
     }
 
-module _ (m : List ℕ) {t : Bool} (e : t ≡ leb (need m) (length m)) (y : t ≡ true) {u : Bool} (f : u ≡ (sized (stateOf m) && writable (stateOf m))) where
-  long-enough : Enough m
-  long-enough = enough-of m e y
-
+module _ (m : List ℕ) (enough : Enough m) where
   -- 27
-  pub wrote-unwritable : {b : List ℕ} → u ≡ false → Wrote m b 27 0 b
+  pub wrote-unwritable : {b : List ℕ} → (sized (stateOf m) && writable (stateOf m)) ≡ false → Wrote m b 27 0 b
   wrote-unwritable {b} z =
-      let h = long-enough in
       record {
         long = refl;
         within = omega arith;
@@ -91,24 +86,24 @@ module _ (m : List ℕ) {t : Bool} (e : t ≡ leb (need m) (length m)) (y : t �
       }
     where
       never : Good m → (bs : List ℕ) → write (stateOf m) ≡ image bs → ⊥
-      never g bs w = not-both (rw (sized-formed (stateOf m) (g .formed), write-image (stateOf m) bs w .0) at f) z
+      never g bs w = not-both refl (rw (sized-formed (stateOf m) (g .formed), write-image (stateOf m) bs w .0) at z)
 
-  module _ (z : u ≡ true) where
+  module _ (able : (sized (stateOf m) && writable (stateOf m)) ≡ true) where
     pub is-sized : sized (stateOf m) ≡ true
-    is-sized = both (sized (stateOf m)) (writable (stateOf m)) (sym f ∙ z) .0
+    is-sized = both (sized (stateOf m)) (writable (stateOf m)) able .0
 
     is-writable : writable (stateOf m) ≡ true
-    is-writable = both (sized (stateOf m)) (writable (stateOf m)) (sym f ∙ z) .1
+    is-writable = both (sized (stateOf m)) (writable (stateOf m)) able .1
 
-    module _ {h : Head} (k : Headed (stateOf m) h) {n size : ℕ} (o : n ≡ length (occupied (stateOf m .capability) (h .domains * slots) 0)) (p : size ≡ lengthFor (h .turns) n) where
+    module _ {t n size : ℕ} (e : t ≡ length (stateOf m .turns)) (f : n ≡ length (occupied (stateOf m .capability) (slot (stateOf m .domains) 0) 0))
+        (k : size ≡ lengthFor t n) where
       -- the size is the image's
-      pub size-is : size ≡ length (bytesFor (stateOf m))
-      size-is = p ∙ (rw (count-is m k o, k .turns) refl ∙ sym (size-law (stateOf m)))
+      size-is : size ≡ length (bytesFor (stateOf m))
+      size-is = k ∙ (rw (e, f) refl ∙ size-law (stateOf m))
 
       -- 28
       pub wrote-small : {b : List ℕ} → length b < size → Wrote m b 28 0 b
       wrote-small {b} l =
-          let h = long-enough in
           record {
             long = refl;
             within = omega arith;
@@ -118,14 +113,13 @@ module _ (m : List ℕ) {t : Bool} (e : t ≡ leb (need m) (length m)) (y : t �
             unwritten = λ g w. absurd (write-none (stateOf m) is-writable w);
             unsized = λ g w. absurd (not-both is-sized w);
             small = λ g bs w l. refl;
-            written = λ g bs w q. absurd (let e = ap length (write-image (stateOf m) bs w .1) in omega (arith, size-is));
+            written = λ g bs w q. absurd (let i = ap length (write-image (stateOf m) bs w .1) in omega (arith, size-is));
           }
 
       -- 0
       pub wrote-image : {b c : List ℕ} {j : ℕ} → size ≤ length b → Laid b 0 (bytesFor (stateOf m)) j c → Wrote m b 0 size c
       wrote-image {b} l w =
-          let h = long-enough in
-          let e = size-is in
+          let z = size-is in
           record {
             long = w .long;
             within = l;
@@ -135,5 +129,7 @@ module _ (m : List ℕ) {t : Bool} (e : t ≡ leb (need m) (length m)) (y : t �
             unwritten = λ g q. absurd (write-none (stateOf m) is-writable q);
             unsized = λ g q. absurd (not-both is-sized q);
             small = λ g bs q r. absurd (let i = ap length (write-image (stateOf m) bs q .1) in omega arith);
-            written = λ g bs q r. (refl, rw (← (write-image (stateOf m) bs q .1)) e, rw (e, ← (write-image (stateOf m) bs q .1)) (laid-front w (omega arith) (bytes-written (stateOf m) (g .formed))));
+            written = λ g bs q r.
+                let i = write-image (stateOf m) bs q .1 in
+                (refl, rw (← i) z, rw (z, ← i) (laid-front w (omega arith) (bytes-written (stateOf m) (g .formed))));
           }

@@ -6,15 +6,13 @@ mod blank;
 mod put;
 
 ghost use mathlib.Core.Path.{_≡_};
-ghost use mathlib.Core.Bool.{true};
 ghost use Prim.Native.Nat.{_+_, _*_, _≤_, _<_};
 ghost use lib.ListN.{length};
 ghost use Rattle.rules.specs.Sizes.{places, turnsMost, entriesMost};
-ghost use Rattle.rules.specs.State.{slot};
 ghost use Rattle.rules.specs.Image.{entryBytes, lengthFor, occupied, entriesFor, bytesFor};
 ghost use Rattle.layout.specs.Layout.{stateOf, Enough};
-ghost use Rattle.write.specs.Written.{Wrote, sized};
-ghost use Rattle.write.specs.Laid.{Laid};
+ghost use Rattle.write.specs.Written.{Wrote};
+ghost use Rattle.write.specs.Laid.{Laid, Ready};
 
 // The bytes of the header and of an entry.
 const HEADER: u32 = 8;
@@ -115,7 +113,7 @@ fn entries(mem: &[u32], image: &mut [u8], i: usize, n: u32) -> usize
 
 // The whole image, which has n entries, into a buffer that is long enough.
 fn fill(mem: &[u32], image: &mut [u8], n: u32) -> usize
-    requires { ⌜ Enough (now mem) ⌝ ∗ ⌜ sized (stateOf (now mem)) ≡ true ⌝ ∗ ⌜ n ≡ length (occupied (stateOf (now mem) .capability) (slot (stateOf (now mem) .domains) 0) 0) ⌝ ∗ ⌜ length (bytesFor (stateOf (now mem))) ≤ length (now image) ⌝ }
+    requires { ⌜ Enough (now mem) ⌝ ∗ ⌜ Ready (stateOf (now mem)) n (length (now image)) ⌝ }
     ensures { λ r. ⌜ Laid (now (image .entry)) 0 (bytesFor (stateOf (now (mem .entry)))) r (now (image .exit)) ⌝ }
 {
     let h = layout::head_of(mem);

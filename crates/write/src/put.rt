@@ -1,6 +1,7 @@
 // Numbers written into a buffer as bytes, one behind the other: each function writes from byte i on and answers the next byte's index.
 // Numbers of two bytes have the high byte first; a number that no byte holds is written modulo 256.
 use rules::Capability;
+ghost use mathlib.Core.Path.{_≡_};
 ghost use mathlib.Core.List.{[], _∷_, _++_};
 ghost use Prim.Native.Nat.{_+_, _/_, _%_, _≤_, _<_};
 ghost use lib.ListN.{length, replicate};
@@ -44,7 +45,7 @@ fn place(image: &mut [u8], i: usize, p: u32) -> usize
 // The domain and the slot of source number x, or 255 and 0 where there is none.
 fn source(image: &mut [u8], i: usize, x: u32) -> usize
     requires { ⌜ i + 2 ≤ length (now image) ⌝ }
-    ensures { λ r. ⌜ Laid (now (image .entry)) i (sourceBytes x) r (now (image .exit)) ⌝ }
+    ensures { λ r. ⌜ Laid (now (image .entry)) i (sourceBytes x) r (now (image .exit)) × (r ≡ i + 2) ⌝ }
 {
     if x == 0 {
         let next = byte(image, i, NO_DOMAIN);

@@ -1,4 +1,4 @@
--- `write::count` meets its contract. Assumes nothing.
+-- `write::count` meets its contract. The invariant: total is how many places below p hold a capability. Assumes nothing.
 use mathlib.Core.Path.{_≡_}
 use Prim.Native.Nat.{_≤_, _-_}
 use native.Mathlib.Omega.{arith}

@@ -1,4 +1,4 @@
--- `write::entries` meets its contract. Assumes nothing.
+-- `write::entries` meets its contract. The invariant: the entries of the places below q are written. Assumes nothing.
 use Prim.Native.Nat.{_≤_, _-_}
 use borrow.Author.Needs.{needs}
 use Rattle.rules.specs.Image.{occupied, entriesFor}

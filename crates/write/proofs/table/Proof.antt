@@ -1,4 +1,4 @@
--- `write::table` meets its contract. Assumes nothing.
+-- `write::table` meets its contract. The invariant: the first k turns are written. Assumes nothing.
 use mathlib.Core.Path.{_≡_}
 use Prim.Native.Nat.{_+_, _-_, _≤_}
 use native.Mathlib.Omega.{arith}

@@ -1,4 +1,4 @@
--- `write::blank::frame_zero` meets its contract. Assumes nothing.
+-- `write::blank::frame_zero` meets its contract. The invariant: the words below w are 0. Assumes nothing.
 use Rattle.write.proofs.Tests.{below-none, below-more, below-fails, below-end, zero-there, zero-none}
 use mathlib.Core.Path.{_≡_}
 use mathlib.Core.Bool.{true}

@@ -1,4 +1,4 @@
--- `write::blank::frames_zero` meets its contract. Assumes nothing.
+-- `write::blank::frames_zero` meets its contract. The invariant: the frames below f are all 0. Assumes nothing.
 use Rattle.write.proofs.Tests.{below-none, below-more, below-fails, below-end}
 use mathlib.Core.Path.{_≡_, sym, _∙_}
 use borrow.Author.Tests.{not-true, not-false}

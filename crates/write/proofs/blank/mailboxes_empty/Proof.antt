@@ -1,4 +1,4 @@
--- `write::blank::mailboxes_empty` meets its contract. Assumes nothing.
+-- `write::blank::mailboxes_empty` meets its contract. The invariant: the mailboxes below i are empty. Assumes nothing.
 use Rattle.write.proofs.Tests.{below-none, below-more, below-fails, below-end, mail-there, mail-none}
 use mathlib.Core.Path.{_≡_}
 use mathlib.Core.Bool.{true}

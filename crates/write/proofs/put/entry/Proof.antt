@@ -1,7 +1,6 @@
 -- `write::put::entry` meets its contract. Assumes nothing.
+use Rattle.write.proofs.Laying.{laid-then}
 use Rattle.rules.specs.Image.{entryFor}
-use Rattle.write.proofs.Laying.{laid-then, source-length}
-use native.Mathlib.Omega.{arith}
 use borrow.Author.Needs.{needs}
 use Rattle.write.proofs.put.entry.Statement.{statement}
 use Rattle.write.proofs.put.entry.Tie as tie
@@ -25,14 +24,22 @@ source-requires : tie.Need-source-requires
 source-requires c κs = search needs
 
 two-requires-3 : tie.Need-two-requires-3
-two-requires-3 c κs = omega (arith, source-length (c .before .before .before .before .before .before .before .before .before .before .before .before .before .before .before .before .before .before .before .before .before .before .before .before .before .before .args .c .source))
+two-requires-3 c κs = search needs
 
 same-length : tie.Need-same-length
 same-length c = search needs
 
 returns : tie.Need-returns
 unfolding entryFor
-returns c = laid-then (c .before .before .before .before .before .before .before .before .before .before .before .before .before .before .before .before .before .before .before .before .before .before .before .before .before .before .place .ensures) (laid-then (c .before .before .before .before .before .before .before .before .before .before .before .before .before .before .before .before .before .before .before .before .before .before .byte .ensures) (laid-then (c .before .before .before .before .before .before .before .before .before .before .before .before .before .before .before .before .before .before .byte2 .ensures) (laid-then (c .before .before .before .before .before .before .before .before .before .before .before .before .before .before .two .ensures) (laid-then (c .before .before .before .before .before .before .before .before .before .before .two2 .ensures) (laid-then (c .before .before .before .before .before .before .source .ensures) (c .before .before .two3 .ensures))))))
+returns c =
+    let last = c .before .before in
+    let source = last .before .before .before .before in
+    let badge = source .before .before .before .before in
+    let object = badge .before .before .before .before in
+    let rights = object .before .before .before .before in
+    let kind = rights .before .before .before .before in
+    let place = kind .before .before .before .before in
+    laid-then (place .place .ensures) (laid-then (kind .byte .ensures) (laid-then (rights .byte2 .ensures) (laid-then (object .two .ensures) (laid-then (badge .two2 .ensures) (laid-then (source .source .ensures .0) (last .two3 .ensures))))))
 
 pub entry-spec : {M : Type 1} → statement M
 entry-spec =

@@ -23,7 +23,13 @@ same-length : tie.Need-same-length
 same-length c = search needs
 
 returns : tie.Need-returns
-returns c = laid-then (c .before .before .before .before .before .before .before .before .before .before .before .before .before .before .before .before .before .before .byte .ensures) (laid-then (c .before .before .before .before .before .before .before .before .before .before .before .before .before .before .byte2 .ensures) (laid-then (c .before .before .before .before .before .before .before .before .before .before .two .ensures) (laid-then (c .before .before .before .before .before .before .two2 .ensures) (c .before .before .two3 .ensures))))
+returns c =
+    let last = c .before .before in
+    let frames = last .before .before .before .before in
+    let entries = frames .before .before .before .before in
+    let turns = entries .before .before .before .before in
+    let domains = turns .before .before .before .before in
+    laid-then (domains .byte .ensures) (laid-then (turns .byte2 .ensures) (laid-then (entries .two .ensures) (laid-then (frames .two2 .ensures) (last .two3 .ensures))))
 
 pub header-spec : {M : Type 1} → statement M
 header-spec =

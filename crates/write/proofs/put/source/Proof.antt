@@ -14,7 +14,7 @@ same-length : tie.Need-same-length
 same-length c = search needs
 
 returns : tie.Need-returns
-returns c = source-none _ (c .before .before .before .before .before .before .before .before .if1 .taken) (laid-then (c .before .before .before .before .before .before .byte .ensures) (c .before .before .byte2 .ensures))
+returns c = (source-none _ (c .before .before .before .before .before .before .before .before .if1 .taken) (laid-then (c .before .before .before .before .before .before .byte .ensures) (c .before .before .byte2 .ensures)), search needs)
 
 sub-place : tie.Need-sub-place
 sub-place c = search needs
@@ -26,7 +26,7 @@ same-length-2 : tie.Need-same-length-2
 same-length-2 c = search needs
 
 returns-2 : tie.Need-returns-2
-returns-2 c = source-some _ (c .before .before .before .before .if1 .left) (c .before .before .place .ensures)
+returns-2 c = (source-some _ (c .before .before .before .before .if1 .left) (c .before .before .place .ensures), search needs)
 
 pub source-spec : {M : Type 1} → statement M
 source-spec =

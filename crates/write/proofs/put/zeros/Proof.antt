@@ -1,4 +1,4 @@
--- `write::put::zeros` meets its contract. Assumes nothing.
+-- `write::put::zeros` meets its contract. The invariant: k bytes are written. Assumes nothing.
 use mathlib.Core.Path.{_≡_}
 use Rattle.write.proofs.Laying.{laid-none, zeros-more, zeros-end}
 use borrow.Author.Needs.{needs}
