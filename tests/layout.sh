@@ -13,6 +13,9 @@ none_dropped() { ! grep -nE '^ *(layout::)?(see|place|source_of|hand_over)\(.*\)
 no_requires() { # FILE FUNCTION: a public entry has no requires
   ! sed -n "/^pub fn $2(/,/^{/p" "$1" | grep -q requires
 }
+entries_ask_nothing() { # no function that C may call has a requires
+  ! sed -n '/^pub extern "C" fn /,/^{/p' crates/meterkernel/src/lib.rt | grep -q requires
+}
 state_is_small() { # beside the frames at most 6,500 words
   local words
   words=$(sed -n 's/^framesAt = \([0-9]*\)$/\1/p' crates/layout/specs/Layout.antt)
@@ -31,4 +34,5 @@ check "the writer asks nothing" no_requires crates/write/src/lib.rt write
 check "the image's refusal asks nothing" no_requires crates/image/src/lib.rt refusal
 check "flow asks nothing" no_requires crates/flow/src/lib.rt flow
 check "could_hold asks nothing" no_requires crates/flow/src/lib.rt could_hold
+check "no entry for C asks anything" entries_ask_nothing
 exit $bad
