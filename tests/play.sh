@@ -29,19 +29,21 @@ for vector in tests/vectors/*.trace; do
   name=${vector%.trace}
   [ -f "$name.answers" ] || continue
   length=$((0x$(head -c 4 "$vector" | od -An -tx1 | tr -d ' ')))
-  [ "$(head -c 4 "$name.answers" | od -An -tx1 | tr -d ' ')" = 00000000 ] || continue
+  refusal=$((0x$(head -c 4 "$name.answers" | od -An -tx1 | tr -d ' ')))
+  [ "$refusal" -eq 0 ] || echo "the image is refused with $refusal" >"$work/line"
+  [ "$refusal" -gt 0 ] || : >"$work/line"
   tail -c +5 "$vector" | head -c "$length" >"$work/image"
   tail -c +$((5 + length)) "$vector" | od -An -v -w32 -tu4 --endian=big >"$work/trace"
-  tail -c +5 "$name.answers" | od -An -v -w32 -tu4 --endian=big | paste "$work/trace" - | awk '
+  tail -c +5 "$name.answers" | od -An -v -w32 -tu4 --endian=big | paste "$work/trace" - | awk -v refused="$refusal" '
     BEGIN { count[1] = 1; count[7] = 1; count[9] = 6; count[10] = 4 }
-    {
+    refused == 0 {
       line = $9
       for (i = 1; i <= 8; i++) line = line " " $i
       if ($10 > 0) line = line ": refusal " $10
       else { line = line ": 0"; for (i = 0; i < count[$1]; i++) line = line " " $(11 + i) }
       print line
     }' >"$work/answers"
-  check "play $(basename "$name")" plays "$work/image" "$work/trace" "$work/answers" /dev/null
+  check "play $(basename "$name")" plays "$work/image" "$work/trace" "$work/answers" "$work/line"
 done
 
 program compose <examples/worked.txt >"$work/image"
