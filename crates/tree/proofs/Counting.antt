@@ -1,14 +1,14 @@
 -- Which sweeps REVOKE makes: a visit and a sweep as functions of the marks, and the number of sweeps up to the first that makes no mark.
 -- Assumes nothing.
 use mathlib.Core.Path.{_≡_, refl, sym, ap, _∙_, subst}
-use mathlib.Core.Bool.{Bool, true, false, cond}
+use mathlib.Core.Bool.{Bool, true, false}
 use mathlib.Core.List.{List}
 use mathlib.Core.Logic.{⊎-elim}
 use Prim.Native.Nat.{ℕ, zero, suc, _+_, _-_, _*_, _≤_, _<_}
 use native.Mathlib.Omega.{arith}
 use native.Mathlib.Numerals.{add-one}
-use lib.Dec.{eqb, ltb}
-use lib.ListN.{length, getD, set, replicate, List·getD-eq-default}
+use lib.Dec.{ltb}
+use lib.ListN.{getD, set, replicate, List·getD-eq-default}
 use lib.Seq.{set-getD}
 use borrow.Author.Tests.{eq-eqb, ne-eqb, ltb-true, ltb-false}
 use Rattle.rules.specs.Sizes.{places}
@@ -18,17 +18,14 @@ use Rattle.tree.specs.Marks.{counted, Marks, Swept, toEmpty}
 use Rattle.tree.specs.Sweeps.{marking, marksTo, marksAfter, Sweeps, Searched, rootMark, PruneVisits}
 
 module _ (at : Places) {n : ℕ} {marks : List ℕ} (q x : ℕ) (e : x ≡ at q .source) (m : Marks n marks) where
-  -- ---- one visit: the source is no place, is not marked, the place is marked already, or is marked now
-
-  unmarked : (getD marks x 0 ≡ 1 → ⊥) → marks ≡ marking at q marks
-  unfolding marking
-  unmarked h = rw (← e, ne-eqb (getD marks x 0) 1 h)
-
-  pub marking-past : places < x → marks ≡ marking at q marks
-  marking-past h = unmarked (λ g. let l = m .long in let z = List·getD-eq-default marks 0 {n = x} (omega arith) in omega arith)
+  -- ---- one visit: the source is not marked, is no place, the place is marked already, or is marked now
 
   pub marking-other : (getD marks x 0 ≡ 1 → ⊥) → marks ≡ marking at q marks
-  marking-other h = unmarked h
+  unfolding marking
+  marking-other h = rw (← e, ne-eqb (getD marks x 0) 1 h)
+
+  pub marking-past : places < x → marks ≡ marking at q marks
+  marking-past h = marking-other (λ g. let l = m .long in let z = List·getD-eq-default marks 0 {n = x} (omega arith) in omega arith)
 
   pub marking-already : getD marks x 0 ≡ 1 → (getD marks (q + 1) 0 ≡ 0 → ⊥) → marks ≡ marking at q marks
   unfolding marking
@@ -142,11 +139,16 @@ visits-found {at} {marks} {p} {v} {n} {r} s e =
       visited = let c = s .visited in let f = ap (λ l. toEmpty l p places) (s .found) in omega arith;
     }
 
--- there is one number of sweeps, and so one of visits
-pub sweeps-one : {at : Places} {start : List ℕ} {j k : ℕ} → Sweeps at start j → Sweeps at start k → j ≡ k
+-- there is one number of sweeps, and one of visits
+sweeps-one : {at : Places} {start : List ℕ} {j k : ℕ} → Sweeps at start j → Sweeps at start k → j ≡ k
 sweeps-one {j = j} {k} a b = go (ltb j k) (ltb k j) refl refl
   where
     go : (t u : Bool) → ltb j k ≡ t → ltb k j ≡ u → j ≡ k
     go true u h g = absurd (b .more j (ltb-true j k h) (a .last))
     go false true h g = absurd (a .more k (ltb-true k j g) (b .last))
     go false false h g = let x = ltb-false j k h in let y = ltb-false k j g in omega arith
+
+pub visits-one : {at : Places} {p before r t : ℕ} → PruneVisits at p before r → PruneVisits at p before t → r ≡ t
+visits-one {at} {p} {before} a b =
+    a .visited
+    ∙ (ap (λ k. before + (places * (k + 1) + toEmpty (marksAfter at k (rootMark p)) p places)) (sweeps-one (a .each) (b .each)) ∙ sym (b .visited))

@@ -143,8 +143,8 @@ module _ (marks : List ℕ) (p : ℕ) where
   pub visits-below : (v n q : ℕ) → n ≡ v + toEmpty marks p q → q ≤ places → v + places < visitsMost → n < visitsMost
   visits-below v n q e h g = let l = to-empty-most q in omega arith
 
-  pub visits-all : (v n r : ℕ) → n ≤ v + places * places → r ≡ n + toEmpty marks p places → p < places → r ≤ v + pruneVisits
-  visits-all v n r h e g = let l = to-empty-most places in omega arith
+  pub visits-all : (v n r : ℕ) → r ≡ n + toEmpty marks p places → n ≤ v + places * places → p < places → r ≤ v + pruneVisits
+  visits-all v n r e h g = let l = to-empty-most places in omega arith
 
 -- ---- what the marks and the emptying come to
 

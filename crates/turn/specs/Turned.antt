@@ -20,7 +20,7 @@ pub record Good (m : List ℕ) : Type 0 where
   pub formed : Formed (stateOf m)
   pub section4 : Section4 (stateOf m .capability)
 
--- the turn does what document 01 says: the next state, and the answer; and its visits are exactly those that it needs
+-- the turn does what document 01 says: the next state, and the answer; and its visits are exactly those of its checks and of its effect
 pub record Exact (m : List ℕ) (o : Operation) (n : List ℕ) (a : Answer) (visits : ℕ) : Type 0 where
   pub state : stateOf n ≡ next (stateOf m) o
   pub answered : a ≡ answer (stateOf m) o

@@ -1,6 +1,7 @@
 -- `tree::mark_derived` meets its contract. The invariant: there were no more sweeps than marks before the last of them, which the
 -- measure counts up to the number of places. Assumes nothing.
 use Prim.Native.Nat.{_+_, _-_, _*_, _≤_}
+use native.Mathlib.Omega.{arith}
 use borrow.Author.Needs.{needs}
 use Rattle.rules.specs.Sizes.{places}
 use Rattle.tree.specs.Tree.{placesOf}
@@ -32,7 +33,7 @@ loop-less : tie.Need-loop-less Inv-loop μ-loop
 loop-less c = search needs
 
 loop-again : tie.Need-loop-again Inv-loop μ-loop
-loop-again c = (search needs, search sweeping-more, search searching-more)
+loop-again c = (search needs, search sweeping-more, search (searching-more, arith))
 
 same-length : tie.Need-same-length Inv-loop μ-loop
 same-length c = search needs
