@@ -3,16 +3,30 @@
 use words::Word;
 ghost use Prim.Native.Nat.{_≤_, _<_};
 
-// The most domains, turns and names of objects, the slots of a domain and of all domains.
+// The most domains, turns, frames and names of objects; how many mailboxes there are, and bells; the slots of a domain and of all domains; the
+// greatest badge.
 pub const DOMAINS: usize = 16;
 
 pub const TURNS: usize = 64;
 
+pub const FRAMES: usize = 256;
+
 pub const NAMES: usize = 1024;
+
+pub const OBJECTS: usize = 64;
 
 pub const SLOTS: usize = 64;
 
 pub const PLACES: usize = 1024;
+
+pub const BADGE: usize = 65535;
+
+// The kinds.
+pub const FRAME: usize = 1;
+
+pub const MAILBOX: usize = 2;
+
+pub const BELL: usize = 3;
 
 // Where the single numbers stand: how far the line is read, its number and its first word, whether something is wrong, and the numbers of
 // frames, domains, turns and names of objects.

@@ -6,18 +6,11 @@ use crate::wrong;
 use words::Word;
 ghost use Prim.Native.Nat.{_<_};
 
-// The kinds.
-const FRAME: usize = 1;
-
-const MAILBOX: usize = 2;
-
-const BELL: usize = 3;
-
 // `frames NUMBER`
 fn frames(text: &[u8], book: &mut [usize]) {
     let again = 0 < book::get(book, book::FRAME_COUNT);
     wrong::line(text, book, again, b"there is such a line already\n");
-    let count = names::number(text, book, 1, 256);
+    let count = names::number(text, book, 1, book::FRAMES);
     book::put(book, book::FRAME_COUNT, count);
 }
 
@@ -71,8 +64,8 @@ fn turns(text: &[u8], book: &mut [usize]) {
 
 // The greatest number of an object of a kind. A frame's is known once the number of frames is.
 fn last_object(text: &[u8], book: &mut [usize], kind: usize) -> usize {
-    if kind != FRAME {
-        return 63;
+    if kind != book::FRAME {
+        return book::OBJECTS - 1;
     }
     let frames = book::get(book, book::FRAME_COUNT);
     if 0 < frames {
@@ -144,7 +137,7 @@ fn place(text: &[u8], book: &mut [usize]) -> usize
 // `badge NUMBER`, or nothing.
 fn marked(text: &[u8], book: &mut [usize]) -> usize {
     if has(text, book, b"badge") {
-        return names::number(text, book, 0, 65535);
+        return names::number(text, book, 0, book::BADGE);
     }
     0
 }
@@ -220,13 +213,13 @@ fn rest(text: &[u8], book: &mut [usize], first: Word) {
         return turns(text, book);
     }
     if words::is(text, first, b"frame") {
-        return object(text, book, FRAME);
+        return object(text, book, book::FRAME);
     }
     if words::is(text, first, b"mailbox") {
-        return object(text, book, MAILBOX);
+        return object(text, book, book::MAILBOX);
     }
     if words::is(text, first, b"bell") {
-        return object(text, book, BELL);
+        return object(text, book, book::BELL);
     }
     if words::is(text, first, b"give") {
         return give(text, book);

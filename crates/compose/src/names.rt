@@ -1,5 +1,5 @@
-// Names and other words of a line, each with what is wrong where it is not what it should be. What they give then is 0, which is as good as
-// anything: nothing is made of a text in which something is wrong.
+// Names and other words of a line, each with what is wrong where it is not what it should be. What they give then may be anything: nothing is
+// made of a text in which something is wrong.
 use crate::book;
 use crate::wrong;
 use words::Word;
@@ -175,10 +175,8 @@ fn rights_of(text: &[u8], word: Word) -> usize
     sum(text, word)
 }
 
-// The right that only a mailbox's capability may have, and the kind of a mailbox.
+// The right that only a mailbox's capability may have.
 const GRANT: usize = 4;
-
-pub const MAILBOX: usize = 2;
 
 // The next word says the rights of a capability for an object of a kind.
 pub fn rights(text: &[u8], book: &mut [usize], kind: usize) -> usize
@@ -194,7 +192,7 @@ pub fn rights(text: &[u8], book: &mut [usize], kind: usize) -> usize
         word,
         b"rights are letters of r, w and g, each once, or - for none\n",
     );
-    let granting = (GRANT <= rights) & (kind != MAILBOX);
+    let granting = (GRANT <= rights) & (kind != book::MAILBOX);
     wrong::word(
         text,
         book,

@@ -18,8 +18,10 @@ pub const COUNT: usize = 5;
 
 pub const OPERATION: usize = 6;
 
-// The most arguments.
+// The most arguments, and the words of an operation with its number.
 pub const ARGUMENTS: usize = 7;
+
+pub const WORDS: usize = 8;
 
 // The words of the desk.
 pub const SIZE: usize = 16;

@@ -2,7 +2,7 @@
 use crate::desk;
 use words::Word;
 
-// The operations' names in the order of their numbers, and how many they are.
+// How many operations have names.
 const NAMES: usize = 11;
 
 // The greatest word.
@@ -78,7 +78,7 @@ fn argument(line: &[u8], desk: &mut [usize], buffer: &[u8], i: usize, word: Word
 
 // The arguments, up to the line's end or to what is wrong.
 fn arguments(line: &[u8], desk: &mut [usize], buffer: &[u8]) {
-    for i in 0..8 {
+    for i in 0..desk::WORDS {
         let word = next(line, desk);
         if words::is_none(word) {
             return;
@@ -93,7 +93,7 @@ fn arguments(line: &[u8], desk: &mut [usize], buffer: &[u8]) {
 // No operation and no arguments.
 fn clear(desk: &mut [usize]) {
     desk::put(desk, desk::COUNT, 0);
-    for i in 0..8 {
+    for i in 0..desk::WORDS {
         desk::put(desk, desk::OPERATION + i, 0);
     }
 }
