@@ -2,7 +2,8 @@
 # The views `report` and `dot` of every image of the vectors. Of an accepted one: no line has more than 100 columns; the table of flows is the
 # model's; each yes that is not from a domain to itself has a shortest chain of direct flows from the one domain to the other, each step one
 # of document 03's cases, by what the model says that domains could hold and by the image's own sources; and the listed closed sets are
-# closed, and as many as there are. Of a refused one: the model's number, and a sentence.
+# closed, and as many as there are. Of a refused one: the model's number, and a sentence. Then the sentences themselves, on the worked
+# example with one byte changed.
 set -u
 cd "$(dirname "$0")/.." || exit 2
 . tests/cases.bash
@@ -108,9 +109,38 @@ drawn() { # NAME
   fi
 }
 
+damaged() { # BYTE VALUE SENTENCE: why the worked example is refused with that byte in place of its own, or behind its last
+  { head -c "$1" tests/vectors/image-1-0000.image && printf '%b' "\\0$(printf '%o' "$2")" &&
+    tail -c "+$(($1 + 2))" tests/vectors/image-1-0000.image; } | program inspect report >"$out"
+  [ "$(tail -n +2 "$out")" = "$3" ]
+}
+
 for image in tests/vectors/*.image; do
   name=${image%.image}
   check "report $(basename "$name")" reported "$name"
   check "dot $(basename "$name")" drawn "$name"
 done
+check '20' [ "$(program inspect report </dev/null)" = $'refused 20\nthere are 0 bytes, and the header has 8' ]
+check '21: domains' damaged 0 17 'byte 0: D is 17, not 1 to 16'
+check '21: turns' damaged 1 0 'byte 1: T is 0, not 1 to 64'
+check '21: entries' damaged 2 5 'bytes 2 and 3: C is 1291, not 0 to 1024'
+check '21: frames' damaged 4 2 'bytes 4 and 5: F is 528, not 1 to 256'
+check '21: bytes 6 and 7' damaged 7 1 'bytes 6 and 7 are not 0'
+check '22' damaged 148 0 'there are 149 bytes, and T 6 and C 11 give 148'
+check '23: a turn' damaged 8 4 'byte 8: a turn names domain 4, and D is 4'
+check '23: padding' damaged 14 1 'byte 14: the padding is 1, not 0'
+check '24: domain' damaged 136 4 'entry 10, bytes 136 to 147: its domain is 4, and D is 4'
+check '24: slot' damaged 17 64 'entry 0, bytes 16 to 27: its slot is 64, and the last is 63'
+check '24: kind' damaged 18 4 'entry 0, bytes 16 to 27: its kind is 4, not 1 to 3'
+check '24: rights' damaged 19 8 'entry 0, bytes 16 to 27: its rights are 8, not 0 to 7'
+check '24: GRANT' damaged 19 7 'entry 0, bytes 16 to 27: it has GRANT, and is not for a mailbox'
+check '24: a frame' damaged 21 16 'entry 0, bytes 16 to 27: it is for frame 16, and F is 16'
+check '24: a bell' damaged 33 64 'entry 1, bytes 28 to 39: it is for bell 64, and the last is 63'
+check '24: last bytes' damaged 27 1 'entry 0, bytes 16 to 27: its last two bytes are not 0'
+check '25' damaged 29 0 'entry 1, bytes 28 to 39: slot 0 of domain 0 does not come after the entry before'
+check '26: no entry' damaged 61 9 "entry 3, bytes 52 to 63: its source, slot 9 of domain 0, is no entry's place"
+check '26: object' damaged 61 1 'entry 3, bytes 52 to 63: its source, slot 1 of domain 0, is for bell 1, and it is for frame 5'
+check '26: rights' damaged 19 2 'entry 3, bytes 52 to 63: its source, slot 0 of domain 0, has rights -w-, and it has r--'
+check '26: badge' damaged 23 9 'entry 3, bytes 52 to 63: its source, slot 0 of domain 0, has badge 9, and it has 0'
+check '26: a circle' damaged 60 1 'entry 3, bytes 52 to 63: following sources from it comes back to it'
 exit $bad
