@@ -31,7 +31,7 @@ check 'nothing is refused with 20' shown matrix /dev/null <(echo 'refused 20')
 check '12,360 bytes have the right length' longer 12360 'refused 24'
 check '12,361 bytes are too long' longer 12361 'refused 22'
 check '100,000 bytes are too long' longer 100000 'refused 22'
-usage='usage: inspect matrix|hold <IMAGE'
+usage='usage: inspect report|matrix|hold|dot <IMAGE'
 check 'no word' says "$usage"
 check 'a word that is no view' says "$usage" matri
 check 'a word that is too long' says "$usage" matrixmatrixmatrix

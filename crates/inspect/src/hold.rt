@@ -5,26 +5,17 @@ use crate::verdict;
 ghost use Prim.Native.Nat.{_+_, _*_, _<_};
 
 // The bytes of the longest answer: 16 domains by 1,024 entries.
-const ANSWERS: usize = 16384;
+pub const ANSWERS: usize = 16384;
 
 // A cell for each triple: 4 kinds with none, 256 objects, 8 rights.
 const TRIPLES: usize = 8192;
 
-// Marks a cell.
-fn mark(cells: &mut [u8], cell: usize) {
-    if cell < cells.len() {
-        cells[cell] = 1;
-    }
-}
-
 // Marks the triple of entry e, where its answer is 1.
-fn mark_entry(image: &[u8], e: usize, answer: usize, cells: &mut [u8])
-    requires { ⌜ e < 65536 ⌝ }
-{
+fn mark_entry(image: &[u8], e: usize, answer: usize, cells: &mut [u8]) {
     if answer == 1 {
         let f = fields::entry(image, e);
         let cell = f.kind as usize * 2048 + f.object as usize * 8 + f.rights as usize;
-        mark(cells, cell);
+        fields::set_byte(cells, cell, 1);
     }
 }
 
@@ -42,14 +33,13 @@ fn line(domain: usize, cells: &[u8], cell: usize, buffer: &mut [u8], waiting: us
     if fields::byte(cells, cell) == 0 {
         return waiting;
     }
-    let n = text::number(buffer, waiting, domain as u64);
-    let n = text::byte(buffer, n, b' ');
-    let n = text::number(buffer, n, (cell / 2048) as u64);
-    let n = text::byte(buffer, n, b' ');
-    let n = text::number(buffer, n, (cell / 8 % 256) as u64);
-    let n = text::byte(buffer, n, b' ');
-    let n = text::number(buffer, n, (cell % 8) as u64);
-    text::line(buffer, n)
+    let triple = [
+        domain as u64,
+        (cell / 2048) as u64,
+        (cell / 8 % 256) as u64,
+        (cell % 8) as u64,
+    ];
+    text::form(buffer, waiting, b"% % % %\n", &triple)
 }
 
 // The lines of a domain, from the cells.

@@ -1,16 +1,27 @@
 // Looks at a boot image: the image on standard input, the view as the first argument. Each view has a file of its own, and says `refused N`
 // of what is no image. It asks the proved functions of `flow`, so what it prints of holding and flow is what document 03 defines; that it
 // prints that and nothing else is tested, not proved. Proved of it: it ends, no sum wraps, no index is out of range.
+mod chains;
+mod closed;
+mod direct;
+mod dot;
 mod fields;
 mod hold;
 mod matrix;
+mod refused;
+mod report;
+mod slots;
+mod table;
 mod verdict;
+mod words;
 
 use libc::STDERR_FILENO;
 use libc::STDIN_FILENO;
 
 // The views, and none of them.
 enum View {
+    Report,
+    Dot,
     Matrix,
     Hold,
     None,
@@ -18,6 +29,12 @@ enum View {
 
 // The view of a word.
 fn view_of(word: &[u8]) -> View {
+    if check::same(word, b"report") {
+        return View::Report;
+    }
+    if check::same(word, b"dot") {
+        return View::Dot;
+    }
     if check::same(word, b"matrix") {
         return View::Matrix;
     }
@@ -36,15 +53,20 @@ fn asked() -> View {
 
 // Says how the program is called.
 fn usage() {
-    io::write_all(STDERR_FILENO, b"usage: inspect matrix|hold <IMAGE\n");
+    io::write_all(
+        STDERR_FILENO,
+        b"usage: inspect report|matrix|hold|dot <IMAGE\n",
+    );
 }
 
-// The longest image has 12,360 bytes. One byte more is enough to refuse a longer one as it would be refused whole.
-const IMAGE: usize = 12361;
+// One byte more than the longest image has is enough to refuse a longer one as it would be refused whole.
+const IMAGE: usize = fields::LONGEST + 1;
 
 // Puts a view of an image into the buffer and gives the number of bytes that wait there.
 fn show(view: View, image: &[u8], buffer: &mut [u8]) -> usize {
     match view {
+        View::Report => report::show(image, buffer),
+        View::Dot => dot::show(image, buffer),
         View::Matrix => matrix::show(image, buffer),
         View::Hold => hold::show(image, buffer),
         View::None => 0,

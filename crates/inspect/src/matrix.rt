@@ -1,10 +1,8 @@
 // What may flow where: a line for each domain, from whom, with a character for each, to whom, 1 where it flows and 0 where not.
 use crate::fields;
+use crate::table::CELLS;
 use crate::verdict;
 ghost use Prim.Native.Nat.{_+_, _<_};
-
-// The cells of the longest answer: 16 domains by 16.
-const CELLS: usize = 256;
 
 // The line of the cells from cell first on.
 fn row(cells: &[u8], first: usize, domains: usize, buffer: &mut [u8], waiting: usize) -> usize

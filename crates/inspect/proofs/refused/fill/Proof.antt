@@ -1,0 +1,64 @@
+-- `inspect::refused::fill` meets its contract. Assumes nothing.
+use borrow.Author.Needs.{needs}
+use lib.ListN.{length}
+use mathlib.Core.Path.{_≡_}
+use Prim.Native.Nat.{_-_}
+use Rattle.inspect.proofs.refused.fill.Statement.{statement}
+use Rattle.inspect.proofs.refused.fill.Tie as tie
+
+abbrev Inv-loop : tie.InvT-loop
+Inv-loop image index₀ entries e₀ index e = length index ≡ length index₀
+
+abbrev μ-loop : tie.MeasureT-loop
+μ-loop image index₀ entries e₀ index e = entries - e
+
+entries-requires : tie.Need-entries-requires Inv-loop μ-loop
+entries-requires c κs = search needs
+
+loop-holds : tie.Need-loop-holds Inv-loop μ-loop
+loop-holds c = search needs
+
+entry-requires : tie.Need-entry-requires Inv-loop μ-loop
+entry-requires c κs = search needs
+
+place-requires : tie.Need-place-requires Inv-loop μ-loop
+place-requires c κs = search needs
+
+add-set-number : tie.Need-add-set-number Inv-loop μ-loop
+add-set-number c = search needs
+
+set-number-requires : tie.Need-set-number-requires Inv-loop μ-loop
+set-number-requires c κs = search needs
+
+add-e : tie.Need-add-e Inv-loop μ-loop
+add-e c = search needs
+
+loop-less : tie.Need-loop-less Inv-loop μ-loop
+loop-less c = search needs
+
+loop-again : tie.Need-loop-again Inv-loop μ-loop
+loop-again c = search needs
+
+same-length : tie.Need-same-length Inv-loop μ-loop
+same-length c = search needs
+
+returns : tie.Need-returns Inv-loop μ-loop
+returns c = search needs
+
+pub fill-spec : {M : Type 1} → statement M
+fill-spec =
+    tie.close
+    (tie.spec
+    Inv-loop
+    μ-loop
+    entries-requires
+    loop-holds
+    entry-requires
+    place-requires
+    add-set-number
+    set-number-requires
+    add-e
+    loop-less
+    loop-again
+    same-length
+    returns)
