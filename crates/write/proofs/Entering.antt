@@ -10,7 +10,7 @@ use Rattle.rules.specs.State.{Places}
 use Rattle.rules.specs.Turn.{present, holds}
 use Rattle.rules.specs.Image.{entryBytes, entryFor, occupied, entriesFor}
 use Rattle.rules.specs.declared.Capability.{Capability}
-use Rattle.rules.proofs.RoundTripEntries.{occupied-most, entries-bytes}
+use Rattle.rules.proofs.RoundTripEntries.{entries-bytes}
 use Rattle.write.specs.Laid.{Laid}
 use Rattle.write.proofs.Laying.{laid-none, laid-then, laid-as}
 
@@ -34,7 +34,7 @@ module _ (at : Places) where
   occupied-more p = occupied-split p 1 0 ∙ ap (λ q. occupied at p 0 ++ occupied at 1 q) (let e : 0 + p ≡ p = omega arith in e)
 
   -- fewer places, no more capabilities
-  occupied-fewer : (p n : ℕ) → p ≤ n → length (occupied at p 0) ≤ length (occupied at n 0)
+  pub occupied-fewer : (p n : ℕ) → p ≤ n → length (occupied at p 0) ≤ length (occupied at n 0)
   occupied-fewer p n h =
       let e : p + (n - p) ≡ n = omega arith in
       let f = rw e at (occupied-split p (n - p) 0) in
@@ -81,10 +81,6 @@ module _ (at : Places) where
   -- so many hold a capability
   pub count-more : (p n k : ℕ) → n ≡ length (occupied at p 0) → k ≡ length (occupied at 1 p) → n + k ≡ length (occupied at (p + 1) 0)
   count-more p n k e f = rw (occupied-more p, length-append) (omega arith)
-
-  -- at most one at each place
-  pub count-least : (p n k : ℕ) → n ≡ length (occupied at p 0) → k ≡ length (occupied at 1 p) → (n ≤ p) × (k ≤ 1)
-  count-least p n k e f = (omega (arith, occupied-most at p 0), omega (arith, occupied-most at 1 p))
 
   -- there is room for its entry
   pub entries-room : {b c : List ℕ} {i j : ℕ} (p n : ℕ) → p < n → i + entryBytes * length (occupied at n 0) ≤ length b

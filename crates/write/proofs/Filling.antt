@@ -21,6 +21,7 @@ use Rattle.layout.specs.declared.Head.{Head}
 use Rattle.write.specs.Written.{sized}
 use Rattle.write.specs.Laid.{low, Laid, Ready}
 use Rattle.write.proofs.Laying.{laid-as}
+use Rattle.write.proofs.Entering.{occupied-fewer}
 
 -- ---- sizes and length
 
@@ -59,13 +60,13 @@ ready s {t} {n} {long} {size} h e f k l =
     let z : size ≡ headerBytes + (t + 3) / 4 * 4 + entryBytes * n = k in
     record { domains = d; turns = u; count = f; fits = omega arith }
 
--- there is room for the entries behind the header, the table and the padding
-pub entries-fit : (s : State) (h : Head) {n long i j at now : ℕ} → Headed s h → Ready s n long → i ≡ headerBytes → j ≡ i + length (s .turns)
-    → at ≡ j + length (replicate {A = ℕ} ((h .turns + 3) / 4 * 4 - h .turns) 0) → now ≡ long
-    → at + entryBytes * length (occupied (s .capability) (h .domains * slots) 0) ≤ now
-entries-fit s h e r f g k l =
+-- there is room for the entries of some of the slots behind the header, the table and the padding
+pub entries-fit : (s : State) (h : Head) {n long i j at now : ℕ} (p : ℕ) → Headed s h → Ready s n long → i ≡ headerBytes → j ≡ i + length (s .turns)
+    → at ≡ j + length (replicate {A = ℕ} ((h .turns + 3) / 4 * 4 - h .turns) 0) → now ≡ long → p ≤ slot (s .domains) 0
+    → at + entryBytes * length (occupied (s .capability) p 0) ≤ now
+entries-fit s h p e r f g k l m =
     let z = length-replicate {A = ℕ} ((h .turns + 3) / 4 * 4 - h .turns) 0 in
-    let o = ap length (slots-of (s .capability) _ _ (e .domains)) in
+    let o = occupied-fewer (s .capability) p (slot (s .domains) 0) m in
     omega arith
 
 -- the header, the table, the padding and the entries are the image

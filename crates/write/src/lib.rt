@@ -38,7 +38,7 @@ pub struct Written {
 // 1 where place p holds a capability, else 0.
 fn held(mem: &[u32], p: u32) -> u32
     requires { ⌜ Enough (now mem) ⌝ ∗ ⌜ p < places ⌝ }
-    ensures { λ r. ⌜ r ≡ length (occupied (stateOf (now (mem .entry)) .capability) 1 p) ⌝ }
+    ensures { λ r. ⌜ (r ≡ length (occupied (stateOf (now (mem .entry)) .capability) 1 p)) × (r ≤ 1) ⌝ }
 {
     let seen = layout::see(mem, p, 0);
     let c = seen.capability;

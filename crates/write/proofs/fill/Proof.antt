@@ -37,7 +37,7 @@ entries-requires c κs =
     let header = table .before .before .before .before in
     let head = header .before .before in
     let start = head .before .before .before in
-    (start .pre .0, (search needs, entries-fit _ _ (head .head-of .ensures) (start .pre .1) (header .header .ensures .next) (table .table .ensures .next) (zeros .zeros .ensures .next) (zeros .zeros .ensures .long ∙ (table .table .ensures .long ∙ header .header .ensures .long))))
+    (start .pre .0, (search needs, entries-fit _ _ _ (head .head-of .ensures) (start .pre .1) (header .header .ensures .next) (table .table .ensures .next) (zeros .zeros .ensures .next) (zeros .zeros .ensures .long ∙ (table .table .ensures .long ∙ header .header .ensures .long)) (search needs)))
 
 same-length : tie.Need-same-length
 same-length c = search needs

@@ -24,7 +24,7 @@ bell-requires : tie.Need-bell-requires Inv-loop μ-loop
 bell-requires c κs = search needs
 
 returns : tie.Need-returns Inv-loop μ-loop
-returns c = below-fails _ _ _ (c .before .before .loop-test .taken) (zero-there _ _ (c .before .bell .ensures) (c .if1 .taken))
+returns c = below-fails _ (c .before .before .before .loop .b) bells (search needs) (zero-there _ _ (c .before .bell .ensures) (c .if1 .taken))
 
 add-b : tie.Need-add-b Inv-loop μ-loop
 add-b c = search needs

@@ -24,7 +24,7 @@ word-requires : tie.Need-word-requires Inv-loop μ-loop
 word-requires c κs = search needs
 
 returns : tie.Need-returns Inv-loop μ-loop
-returns c = below-fails _ _ _ (c .before .before .loop-test .taken) (zero-there _ _ (c .before .word .ensures) (c .if1 .taken))
+returns c = below-fails _ (c .before .before .before .loop .w) frameWords (search needs) (zero-there _ _ (c .before .word .ensures) (c .if1 .taken))
 
 add-w : tie.Need-add-w Inv-loop μ-loop
 add-w c = search needs

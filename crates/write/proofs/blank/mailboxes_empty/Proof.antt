@@ -24,7 +24,7 @@ message-requires : tie.Need-message-requires Inv-loop μ-loop
 message-requires c κs = search needs
 
 returns : tie.Need-returns Inv-loop μ-loop
-returns c = below-fails _ _ _ (c .before .before .before .loop-test .taken) (mail-there _ _ (c .before .before .message .ensures) (c .if1 .taken))
+returns c = below-fails _ (c .before .before .before .before .loop .i) mailboxes (search needs) (mail-there _ _ (c .before .before .message .ensures) (c .if1 .taken))
 
 add-i : tie.Need-add-i Inv-loop μ-loop
 add-i c = search needs
