@@ -6,6 +6,10 @@ cd "$(dirname "$0")/.." || exit 2
 out=$(mktemp -d) || exit 2
 trap 'rm -rf "$out"' EXIT
 
+# what is missing is built first, so that standard error has a tool's own words alone
+for file in examples/worked.trace tests/vectors/trace-1-0000.trace; do ./mk replay "$file" >/dev/null 2>&1; done
+./mk inspect matrix examples/worked.txt >/dev/null 2>&1
+
 gives() { # STATUS COMMAND..: the exit status; standard output and standard error are kept
   local status=$1
   shift
