@@ -38,19 +38,30 @@ fail() { # MESSAGE
 
 readable() { [ -r "$1" ] && [ ! -d "$1" ] || fail "cannot read $1"; }
 
-# Builds a program where it is missing or older than its sources; the proofs' progress is shown on standard error.
-built() { # NAME
-  if [ -x "$here/target/bin/$1" ] && [ -z "$(find "$here/crates" "$here/crates.txt" -newer "$here/target/bin/$1" -type f \( -name '*.rt' -o -name '*.antt' -o -name crates.txt \) | head -n 1)" ]; then return; fi
+# A program is there, and no source is newer.
+current() { # NAME
+  [ -x "$here/target/bin/$1" ] &&
+    [ -z "$(find "$here/crates" "$here/crates.txt" -newer "$here/target/bin/$1" -type f \( -name '*.rt' -o -name '*.antt' -o -name crates.txt \) | head -n 1)" ]
+}
+
+# Builds those programs that are missing or older than a source, all in one go; the proofs' progress is shown on standard error.
+built() { # NAME..
+  missing=
+  for program in "$@"; do current "$program" || missing="$missing $program"; done
+  [ -n "$missing" ] || return 0
   command -v rt >/dev/null 2>&1 || fail "the Rattle kit's command rt is not on the PATH"
-  echo "mk: proving and building $1; this takes some minutes the first time" >&2
+  echo "mk: proving and building$missing; this takes some minutes the first time" >&2
   begin=$(date +%s)
-  (cd "$here" && rt check "$1" 2>&1) | while IFS= read -r line; do
+  # shellcheck disable=SC2086 # names of programs, one word each
+  (cd "$here" && rt check $missing 2>&1) | while IFS= read -r line; do
     case $line in
       'rt: '*) echo "  [$(($(date +%s) - begin)) s] $line" >&2 ;;
     esac
   done
-  [ -x "$here/target/bin/$1" ] || fail "$1 could not be built: run rt check $1 to see why"
-  touch "$here/target/bin/$1"
+  for program in $missing; do
+    [ -x "$here/target/bin/$program" ] || fail "$program could not be built: run rt check $program to see why"
+    touch "$here/target/bin/$program"
+  done
 }
 
 run() { "$here/tools/program" "$@"; }
@@ -139,7 +150,7 @@ replay() {
 
 demo() {
   [ $# -eq 0 ] || usage "demo takes nothing"
-  for program in compose inspect play; do built $program; done
+  built compose inspect play
   echo "== examples/worked.txt, composed: $(compose "$here/examples/worked.txt" | wc -c) bytes"
   compose "$here/examples/worked.txt" | od -An -tx1 -v
   echo "== what it says"

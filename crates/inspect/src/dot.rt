@@ -65,7 +65,7 @@ fn flow(image: &[u8], carriers: &[usize], x: usize, buffer: &mut [u8], waiting: 
         return waiting;
     }
     let pair = [(x / DOMAINS) as u64, (x % DOMAINS) as u64];
-    let form = b"  \"domain %\" -> \"domain %\" [label=\"";
+    let form = b"  \"domain %\" -> \"domain %\" [taillabel=\"";
     let n = text::form(buffer, waiting, form, &pair);
     let n = direct::name(image, carrier, buffer, n);
     text::word(buffer, n, b"\"];\n")
@@ -85,7 +85,11 @@ fn graph(image: &[u8], buffer: &mut [u8]) -> usize {
     let n = text::word(buffer, 0, b"digraph image {\n  rankdir=LR;\n");
     let n = boxes(fields::domains(image), buffer, n);
     let n = entries(image, buffer, n);
-    text::word(buffer, n, b"  edge [style=dashed, constraint=false];\n")
+    text::word(
+        buffer,
+        n,
+        b"  edge [style=dashed, constraint=false, fontsize=9, labelangle=40, labeldistance=3];\n",
+    )
 }
 
 // The whole view.
