@@ -36,7 +36,12 @@ taking-requires-3 : tie.Need-taking-requires-3
 taking-requires-3 c κs = search needs
 
 returns-3 : tie.Need-returns-3
-returns-3 c = takes-still _ _ _ _ (search stays-full) (c .taking3 .ensures) (search taking-yes)
+returns-3 c =
+    let to = c .before .before .before in
+    let e = to .before in
+    let under = e .before .before in
+    takes-still _ _ _ _ (stays-full _ _ _ _ _ (λ z. omega (arith, c .before)) (to .see2 .ensures .0)) (c .taking3 .ensures)
+    (taking-yes _ _ _ _ _ _ (e .if2 .left) (under .see .ensures .0) (under .before .if1 .left) _ (under .see .ensures .1) (to .see2 .ensures .1))
 
 mul-t12 : tie.Need-mul-t12
 mul-t12 c = search needs
@@ -48,7 +53,14 @@ taking-requires-4 : tie.Need-taking-requires-4
 taking-requires-4 c κs = search needs
 
 returns-4 : tie.Need-returns-4
-returns-4 c = takes-moves _ _ _ _ (search moves-there) (c .taking4 .ensures) (search taking-yes)
+returns-4 c =
+    let to = c .before .before .before in
+    let e = to .before in
+    let under = e .before .before in
+    takes-moves _ _ _ _
+    (moves-there _ _ _ _ _ _ (e .if2 .left) (under .see .ensures .0) (under .before .if1 .left) (c .before .if3 .left) (to .see2 .ensures .0))
+    (c .taking4 .ensures)
+    (taking-yes _ _ _ _ _ _ (e .if2 .left) (under .see .ensures .0) (under .before .if1 .left) _ (under .see .ensures .1) (to .see2 .ensures .1))
 
 pub take-spec : {M : Type 1} → statement M
 take-spec =
