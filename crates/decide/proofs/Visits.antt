@@ -7,16 +7,17 @@ use lib.Dec.{eqb, ltb}
 use lib.Bits.{bitAnd}
 use borrow.Author.Tests.{lt-ltb, le-ltb, eq-eqb, ne-eqb, eqb-false}
 use Rattle.rules.specs.Sizes.{slots}
-use Rattle.rules.specs.State.{State, MAILBOX, READ, WRITE, GRANT, within, room}
-use Rattle.rules.specs.Turn.{held, present, holds, anySlot, slotFor, goes, receive, Name, IDLE, LOAD, STORE, DERIVE, DELETE, REVOKE, RING, HEAR, SEND, RECEIVE, LOOK, unknown}
+use Rattle.rules.specs.State.{State, MAILBOX, READ, WRITE, GRANT, within, slot, room}
+use Rattle.rules.specs.Turn.{held, present, holds, anySlot, slotFor, goes, moves, receive, Name, IDLE, LOAD, STORE, DERIVE, DELETE, REVOKE, RING, HEAR, SEND, RECEIVE, LOOK, unknown}
 use Rattle.rules.specs.declared.Capability.{Capability}
 use Rattle.rules.specs.declared.Operation.{Operation}
+use Rattle.rules.specs.declared.Effect.the-variants.{Take, Move}
 use Rattle.decide.specs.Decides.{Decides, Looks, Carries, Takes, refusedBy}
 use Rattle.decide.specs.Visits.{seen, unless, seenAlong, seenTaking, checksReceive, looksDerive, looksSend, looksReceive, looks, looksMost}
 use Rattle.decide.specs.declared.Decided.{Decided}
 use Rattle.decide.specs.declared.look.Looked.{Looked}
 use Rattle.decide.specs.declared.mail.Taken.{Taken}
-use Rattle.decide.proofs.Checks.{is-refused}
+use Rattle.decide.proofs.Checks.{checks, is-refused}
 
 -- ---- a slot that is looked up
 
@@ -69,6 +70,33 @@ module _ (v a : ℕ) where
     pub taking-yes : (c : Capability) → (c .kind ≡ 0 → ⊥) → c ≡ s .capability (room m) → t < slots → (u : ℕ) → u ≡ a + 1 → v ≡ u + 1 → v ≡ a + seenTaking s m t
     unfolding seenTaking present
     taking-yes c n g h u f e = rw (lt-ltb t slots h, ← g, ne-eqb (c .kind) 0 n) (omega arith)
+
+-- what RECEIVE takes, by the ways of its code: t is no slot, nothing is under way, slot t holds something; and else it moves
+module _ (s : State) (d m t : ℕ) where
+  pub stays-no : slots ≤ t → moves s d m t ≡ false
+  unfolding moves
+  stays-no h = search checks
+
+  pub stays-none : (c : Capability) → c .kind ≡ 0 → c ≡ s .capability (room m) → moves s d m t ≡ false
+  unfolding moves
+  stays-none c n g = search checks
+
+  pub stays-full : (c : Capability) → (c .kind ≡ 0 → ⊥) → c ≡ held s d t → moves s d m t ≡ false
+  unfolding moves
+  stays-full c n g = search checks
+
+  pub moves-there : (c a : Capability) → (c .kind ≡ 0 → ⊥) → c ≡ s .capability (room m) → t < slots → a .kind ≡ 0 → a ≡ held s d t
+      → moves s d m t ≡ true
+  unfolding moves
+  moves-there c a n g h k e = search checks
+
+  pub takes-still : {r : Taken} {v before : ℕ} → moves s d m t ≡ false → (r .effect ≡ Take m) × (r .flag ≡ 0) × (r .visits ≡ v)
+      → v ≡ before + seenTaking s m t → Takes r s d m t before
+  takes-still e p g = record { effect = rw e (p .0); flag = rw e (p .1); visits = p .2 ∙ g }
+
+  pub takes-moves : {r : Taken} {v before : ℕ} → moves s d m t ≡ true → (r .effect ≡ Move m (slot d t)) × (r .flag ≡ 1) × (r .visits ≡ v)
+      → v ≡ before + seenTaking s m t → Takes r s d m t before
+  takes-moves e p g = record { effect = rw e (p .0); flag = rw e (p .1); visits = p .2 ∙ g }
 
 -- ---- the operations that look at more than their slot x, which the code has looked up as k
 

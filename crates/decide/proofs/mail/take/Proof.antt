@@ -1,10 +1,7 @@
 -- `decide::mail::take` meets its contract. Assumes nothing.
-use mathlib.Core.Path.{_∙_}
-use Rattle.rules.specs.Turn.{moves}
-use Rattle.decide.proofs.Checks.{checks}
 use native.Mathlib.Omega.{arith}
 use borrow.Author.Needs.{needs}
-use Rattle.decide.proofs.Visits.{taking-no, taking-none, taking-yes}
+use Rattle.decide.proofs.Visits.{stays-no, stays-none, stays-full, moves-there, takes-still, takes-moves, taking-no, taking-none, taking-yes}
 use Rattle.decide.proofs.mail.take.Statement.{statement}
 use Rattle.decide.proofs.mail.take.Tie as tie
 
@@ -12,8 +9,7 @@ taking-requires : tie.Need-taking-requires
 taking-requires c κs = search needs
 
 returns : tie.Need-returns
-unfolding moves
-returns c = record { effect = search checks; flag = search checks; visits = c .taking .ensures .2 ∙ search (taking-no, arith) }
+returns c = takes-still _ _ _ _ (search stays-no) (c .taking .ensures) (search (taking-no, arith))
 
 add-see : tie.Need-add-see
 add-see c = search needs
@@ -25,8 +21,7 @@ taking-requires-2 : tie.Need-taking-requires-2
 taking-requires-2 c κs = search needs
 
 returns-2 : tie.Need-returns-2
-unfolding moves
-returns-2 c = record { effect = search checks; flag = search checks; visits = c .taking2 .ensures .2 ∙ search taking-none }
+returns-2 c = takes-still _ _ _ _ (search stays-none) (c .taking2 .ensures) (search taking-none)
 
 mul-see : tie.Need-mul-see
 mul-see c = search needs
@@ -41,8 +36,12 @@ taking-requires-3 : tie.Need-taking-requires-3
 taking-requires-3 c κs = search needs
 
 returns-3 : tie.Need-returns-3
-unfolding moves
-returns-3 c = record { effect = search checks; flag = search checks; visits = c .taking3 .ensures .2 ∙ search taking-yes }
+returns-3 c =
+    let to = c .before .before .before in
+    let e = to .before in
+    let under = e .before .before in
+    takes-still _ _ _ _ (stays-full _ _ _ _ _ (λ z. omega (arith, c .before)) (to .see2 .ensures .0)) (c .taking3 .ensures)
+    (taking-yes _ _ _ _ _ _ (e .if2 .left) (under .see .ensures .0) (under .before .if1 .left) _ (under .see .ensures .1) (to .see2 .ensures .1))
 
 mul-t12 : tie.Need-mul-t12
 mul-t12 c = search needs
@@ -54,8 +53,14 @@ taking-requires-4 : tie.Need-taking-requires-4
 taking-requires-4 c κs = search needs
 
 returns-4 : tie.Need-returns-4
-unfolding moves
-returns-4 c = record { effect = search checks; flag = search checks; visits = c .taking4 .ensures .2 ∙ search taking-yes }
+returns-4 c =
+    let to = c .before .before .before in
+    let e = to .before in
+    let under = e .before .before in
+    takes-moves _ _ _ _
+    (moves-there _ _ _ _ _ _ (e .if2 .left) (under .see .ensures .0) (under .before .if1 .left) (c .before .if3 .left) (to .see2 .ensures .0))
+    (c .taking4 .ensures)
+    (taking-yes _ _ _ _ _ _ (e .if2 .left) (under .see .ensures .0) (under .before .if1 .left) _ (under .see .ensures .1) (to .see2 .ensures .1))
 
 pub take-spec : {M : Type 1} → statement M
 take-spec =
