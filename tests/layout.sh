@@ -9,7 +9,7 @@ places_by_count() { ! grep -nE 'mem\[(KIND|RIGHTS|OBJECT|BADGE|SOURCE)' crates/l
   # the function that the line stands in names visits
   sed -n "1,${line}p" crates/layout/src/lib.rt | grep -E '^(pub )?fn ' | tail -n 1 | grep -q 'visits: u32' || echo "$line"
 done | grep -q .; }
-none_dropped() { ! grep -nE '^ *(layout::)?(see|place|source_of|hand_over)\(.*\);' crates/{decide,tree,turn}/src/*.rt; }
+none_dropped() { ! grep -nE '^ *(layout::)?(see|place|source_of|hand_over)\(.*\);' crates/{look,mail,decide,tree,turn}/src/*.rt; }
 no_requires() { # FILE FUNCTION: a public entry has no requires
   ! sed -n "/^pub fn $2(/,/^{/p" "$1" | grep -q requires
 }

@@ -1,24 +1,16 @@
 // The checks of an operation: they read memory and give an effect and an answer. Each function's decision is the one of the written
 // rules, on any memory that is long enough for the state that it claims to hold.
-mod look;
-mod mail;
 mod plain;
 
-use rules::Decision;
+use look::Decided;
 use rules::Operation;
 ghost use mathlib.Core.Path.{_≡_};
 ghost use Prim.Native.Nat.{_≤_, _<_};
 ghost use Rattle.rules.specs.Sizes.{domainsMost};
 ghost use Rattle.rules.specs.Turn.{named, decide as decideRule};
 ghost use Rattle.layout.specs.Layout.{stateOf, Enough};
-ghost use Rattle.decide.specs.Decides.{Decides};
+ghost use Rattle.look.specs.Looks.{Decides};
 ghost use Rattle.decide.specs.Visits.{looks};
-
-// A decision, and how many places were visited for it.
-pub struct Decided {
-    pub decision: Decision,
-    pub visits: u32,
-}
 
 // What domain d's operation comes to.
 pub fn decide(mem: &[u32], d: u32, op: Operation) -> Decided

@@ -1,11 +1,11 @@
 // The operations on frames, bells and a domain's own slots.
-use crate::Decided;
-use crate::look::Looked;
-use crate::look::any_slot;
-use crate::look::done;
-use crate::look::nothing;
-use crate::look::refused;
-use crate::look::slot_for;
+use look::Decided;
+use look::Looked;
+use look::any_slot;
+use look::done;
+use look::nothing;
+use look::refused;
+use look::slot_for;
 use rules::Answer;
 use rules::BADGE_MOST;
 use rules::BELL;
@@ -24,8 +24,8 @@ ghost use lib.Dec.{eqb};
 ghost use Rattle.rules.specs.Sizes.{domainsMost, allSlots};
 ghost use Rattle.rules.specs.Turn.{load as loadRule, store as storeRule, derived as derivedRule, derive as deriveRule, delete as deleteRule, revoke as revokeRule, ring as ringRule, hear as hearRule, look as lookRule};
 ghost use Rattle.layout.specs.Layout.{stateOf, Enough};
-ghost use Rattle.decide.specs.Decides.{Decides, Looks, wordFor, doneBy};
-ghost use Rattle.decide.specs.Visits.{seen, looksDerive};
+ghost use Rattle.look.specs.Looks.{Decides, Looks, doneBy, seen};
+ghost use Rattle.decide.specs.Visits.{wordFor, looksDerive};
 
 pub fn idle() -> Decided
     ensures { λ r. ⌜ Decides r (doneBy Effect.Nothing 0) 0 ⌝ }

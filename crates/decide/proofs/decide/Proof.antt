@@ -1,7 +1,7 @@
 -- `decide::decide` meets its contract. Assumes nothing.
 use Rattle.rules.specs.Turn.{named, decided, conclude}
 use Rattle.decide.specs.Visits.{looks}
-use Rattle.decide.proofs.Checks.{by-number, by-no-number}
+use Rattle.decide.proofs.Numbers.{by-number, by-no-number}
 use borrow.Author.Needs.{needs}
 use Rattle.decide.proofs.decide.Statement.{statement}
 use Rattle.decide.proofs.decide.Tie as tie

@@ -3,8 +3,9 @@ use native.Mathlib.Omega.{arith}
 use borrow.Author.Needs.{needs}
 use Rattle.rules.specs.Turn.{derive}
 use mathlib.Core.Path.{refl, _∙_}
-use Rattle.decide.proofs.Checks.{checks, is-done, is-refused}
-use Rattle.decide.proofs.Visits.{seen-most, derive-refused, derive-no, derive-yes}
+use Rattle.look.proofs.Checks.{checks, is-done, is-refused}
+use Rattle.look.proofs.Visits.{seen-most}
+use Rattle.decide.proofs.Visits.{derive-refused, derive-no, derive-yes}
 use Rattle.decide.proofs.plain.derive.Statement.{statement}
 use Rattle.decide.proofs.plain.derive.Tie as tie
 

@@ -2,7 +2,7 @@
 use native.Mathlib.Omega.{arith}
 use borrow.Author.Needs.{needs}
 use Rattle.rules.specs.Turn.{hear}
-use Rattle.decide.proofs.Checks.{checks, is-done, is-refused}
+use Rattle.look.proofs.Checks.{checks, is-done, is-refused}
 use Rattle.decide.proofs.plain.hear.Statement.{statement}
 use Rattle.decide.proofs.plain.hear.Tie as tie
 

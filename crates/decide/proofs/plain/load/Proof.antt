@@ -1,7 +1,7 @@
 -- `decide::plain::load` meets its contract. Assumes nothing.
 use native.Mathlib.Omega.{arith}
 use Rattle.rules.specs.Turn.{load}
-use Rattle.decide.proofs.Checks.{checks, is-refused, is-done}
+use Rattle.look.proofs.Checks.{checks, is-refused, is-done}
 use borrow.Author.Needs.{needs}
 use Rattle.decide.proofs.plain.load.Statement.{statement}
 use Rattle.decide.proofs.plain.load.Tie as tie

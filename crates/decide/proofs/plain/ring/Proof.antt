@@ -2,7 +2,7 @@
 use native.Mathlib.Omega.{arith}
 use borrow.Author.Needs.{needs}
 use Rattle.rules.specs.Turn.{ring}
-use Rattle.decide.proofs.Checks.{checks, is-done, is-refused}
+use Rattle.look.proofs.Checks.{checks, is-done, is-refused}
 use Rattle.decide.proofs.plain.ring.Statement.{statement}
 use Rattle.decide.proofs.plain.ring.Tie as tie
 

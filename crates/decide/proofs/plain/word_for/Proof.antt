@@ -1,7 +1,7 @@
 -- `decide::plain::word_for` meets its contract. Assumes nothing.
 use mathlib.Core.Path.{refl}
 use native.Mathlib.Omega.{arith}
-use Rattle.decide.proofs.Checks.{checks, never}
+use Rattle.look.proofs.Checks.{checks, never}
 use borrow.Author.Needs.{needs}
 use Rattle.decide.proofs.plain.word_for.Statement.{statement}
 use Rattle.decide.proofs.plain.word_for.Tie as tie
