@@ -73,7 +73,7 @@ given_nothing es q h k =
     ⊎_elim (λ n. n) (λ r. absurd (h r.0 r.1 (ap (λ c. c.kind) (sym r.3) ∙ k))) (given_either es q)
 
 -- the entries after e in rising order are for later places, and rise
-rising_above : (e : Entry) {f : Entry} {es : List Entry} → Memᴰ f es → rising_from e es ≡ true → place_of e < place_of f
+rising_above : {f : Entry} (e : Entry) {es : List Entry} → Memᴰ f es → rising_from e es ≡ true → place_of e < place_of f
 unfolding rising_from
 rising_above e (Memᴰ.head {x = x} m) h = rw m (ltb-true _ _ (both (ltb (place_of e) (place_of x)) _ h).0)
 rising_above e (Memᴰ.tail {x = x} m) h =

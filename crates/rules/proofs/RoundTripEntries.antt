@@ -42,7 +42,7 @@ pub rises-rising : (p : ℕ) (es : List Entry) → Rises p es → rising es ≡ 
 unfolding rising rising_from
 rises-rising p [] r = refl
 rises-rising p (e ∷ []) r = refl
-rises-rising p (e ∷ f ∷ fs) r = rw (lt-ltb _ _ r.1.0) (rises-rising _ (f ∷ fs) r.1)
+rises-rising p (e ∷ f ∷ fs) r = rw (lt-ltb _ _ r.1.0) (rises-rising (suc (place_of e)) (f ∷ fs) r.1)
 
 -- such entries give nothing before place p
 given-before : (p q : ℕ) (es : List Entry) → Rises p es → q < p → given es q ≡ nothing

@@ -72,7 +72,7 @@ bytes_of (x ∷ xs) h (suc i) = bytes_of xs (both (ltb x 256) _ h).1 i
 reached_after : {b : List ℕ} {s : State} → Reached b s → (os : List Operation) → Reached b (after s os)
 unfolding after
 reached_after r [] = r
-reached_after r (o ∷ os) = reached_after (turned r o) os
+reached_after {s = s} r (o ∷ os) = reached_after {s = next s o} (turned r o) os
 
 -- each of the example's states is reached
 reached : (n : ℕ) → Reached bytes (state_after n)
