@@ -1,5 +1,7 @@
 // The memory that a state stands in: the only crate that indexes it. Whoever reads or writes what a place holds goes through a
 // function here that counts the visit. A number from memory that is out of range reads as 0 and is not stored to.
+#![tactic(auto)]
+
 ghost use Rattle.std.specs.Prelude.{◌≡◌, cond, suc, ◌+◌, ◌≤◌, ◌<◌, eqb, leb, length, get_or};
 ghost use Rattle.rules.specs.Sizes.{places, bells, mailboxes, turns_most, frame_words};
 ghost use Rattle.rules.specs.State.{whose as turn_of};
