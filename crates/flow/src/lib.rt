@@ -1,4 +1,6 @@
 // Document 03: what a domain could ever hold, and what may flow where.
+#![tactic(auto)]
+
 ghost use Rattle.std.specs.Prelude.{◌≡◌, ◌+◌, ◌*◌, ◌/◌, ◌^◌, ◌≤◌, ◌<◌, length};
 ghost use Rattle.rules.specs.Sizes.{domains_most, mailboxes, entries_most};
 ghost use Rattle.flow.specs.Masks.{In, row, Meeting, United, Taken, Spread, Themselves, sums};

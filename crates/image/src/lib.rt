@@ -2,6 +2,8 @@
 // of entries. Numbers of two bytes have the high byte first. Refusals 20 to 25 are tested in their order, each by a function of its own,
 // which may rely on the tests before it. Refusal 26 comes last: an index from places to entries finds the entry that defines a source at
 // once, and marks at places find a chain of sources that comes back, each place being passed once.
+#![tactic(auto)]
+
 ghost use Rattle.std.specs.Prelude.{◌≡◌, ◌+◌, ◌-◌, ◌*◌, ◌/◌, ◌≤◌, ◌<◌, ltb, length, take, drop};
 ghost use Rattle.rules.specs.Sizes.{all_slots};
 ghost use Rattle.rules.specs.State.{objects as objects_of};

@@ -1,4 +1,6 @@
 // The checks of the operations on mailboxes, SEND and RECEIVE: they read memory and give an effect and an answer.
+#![tactic(auto)]
+
 ghost use Rattle.std.specs.Prelude.{◌≡◌, ◌≤◌, ◌<◌};
 ghost use Rattle.rules.specs.Sizes.{domains_most, all_slots, slots, mailboxes};
 ghost use Rattle.rules.specs.Turn.{send as send_rule, receive as receive_rule, copied as copied_rule};

@@ -1,5 +1,7 @@
 // The sweeps over the places: DELETE's, which hands sources on, and REVOKE's, which mark what is derived from a place and empty it. What a
 // place holds is read and written through layout, which counts the visit. Source number q + 1 is place q, and 0 is no source.
+#![tactic(auto)]
+
 ghost use Rattle.std.specs.Prelude.{◌≡◌, cond, suc, ◌+◌, ◌*◌, ◌≤◌, ◌<◌, length, set};
 ghost use Rattle.rules.specs.Sizes.{places};
 ghost use Rattle.rules.specs.State.{nothing, Sound};
