@@ -1,5 +1,4 @@
 -- Answers for `write::entries`. Assumes nothing.
-use Prim.Native.Nat.{◌-◌}
 use borrow.Author.Rules.{rules}
 use Rattle.write.proofs.Entering.{entries-begin, entries-room, entries_more, entries_end}
 use Rattle.write.proofs.entries.Goals as goal
