@@ -25,7 +25,7 @@ const NO_DOMAIN: u32 = 255;
 const TOO_SHORT: u32 = 29;
 
 // D, F, T and C.
-#[derive(Drop)]
+#[derive(Clone, Copy)]
 struct Sizes {
     domains: u32,
     frames: u32,
@@ -83,10 +83,10 @@ fn capability(e: Fields) -> Capability
 
 // The table of turns, m of them, into memory with its head.
 fn table(image: &[u8], mem: &mut [u32], m: usize)
-    requires fact_1 { refusal_of image.now ≡ 0 }
-    requires fact_2 { frames_at ≤ length mem.old }
-    requires fact_3 { m ≡ size_t image.now }
-    requires fact_4 { Tabled image.now mem.old mem.old 0 }
+    requires not_refused { refusal_of image.now ≡ 0 }
+    requires mem_long_enough { frames_at ≤ length mem.old }
+    requires m_is { m ≡ size_t image.now }
+    requires tabled { Tabled image.now mem.old mem.old 0 }
     ensures { Tabled image.now mem.old mem.new (size_t image.now) }
 {
     let mut i = 0;
@@ -98,11 +98,11 @@ fn table(image: &[u8], mem: &mut [u32], m: usize)
 
 // Entry i, whose first byte is byte at, into memory with the entries before it.
 fn enter(image: &[u8], mem: &mut [u32], at: usize, i: usize)
-    requires fact_1 { refusal_of image.now ≡ 0 }
-    requires fact_2 { i < size_c image.now }
-    requires fact_3 { at ≡ entries_at (size_t image.now) + entry_bytes * i }
-    requires fact_4 { words_for (size_f image.now) ≤ length mem.old }
-    requires fact_5 { Entered image.now mem.old mem.old i }
+    requires not_refused { refusal_of image.now ≡ 0 }
+    requires i_in_range { i < size_c image.now }
+    requires at_is { at ≡ entries_at (size_t image.now) + entry_bytes * i }
+    requires mem_long_enough { words_for (size_f image.now) ≤ length mem.old }
+    requires entered { Entered image.now mem.old mem.old i }
     ensures { Entered image.now mem.old mem.new (i + 1) }
 {
     let e = image::entry(image, at);
@@ -111,11 +111,11 @@ fn enter(image: &[u8], mem: &mut [u32], at: usize, i: usize)
 
 // The entries, n of them, from byte first on, into memory with its head and its table.
 fn entries(image: &[u8], mem: &mut [u32], first: usize, n: usize)
-    requires fact_1 { refusal_of image.now ≡ 0 }
-    requires fact_2 { n ≡ size_c image.now }
-    requires fact_3 { first ≡ entries_at (size_t image.now) }
-    requires fact_4 { words_for (size_f image.now) ≤ length mem.old }
-    requires fact_5 { Entered image.now mem.old mem.old 0 }
+    requires not_refused { refusal_of image.now ≡ 0 }
+    requires n_is { n ≡ size_c image.now }
+    requires first_is { first ≡ entries_at (size_t image.now) }
+    requires mem_long_enough { words_for (size_f image.now) ≤ length mem.old }
+    requires entered { Entered image.now mem.old mem.old 0 }
     ensures { Entered image.now mem.old mem.new (size_c image.now) }
 {
     let mut i = 0;
@@ -127,9 +127,9 @@ fn entries(image: &[u8], mem: &mut [u32], first: usize, n: usize)
 
 // An accepted image into memory that is long enough: words is what its state takes.
 fn load(image: &[u8], mem: &mut [u32], words: usize)
-    requires fact_1 { refusal_of image.now ≡ 0 }
-    requires fact_2 { words ≡ words_for (size_f image.now) }
-    requires fact_3 { words ≤ length mem.old }
+    requires not_refused { refusal_of image.now ≡ 0 }
+    requires words_is { words ≡ words_for (size_f image.now) }
+    requires mem_long_enough { words ≤ length mem.old }
     ensures { Loaded image.now mem.old mem.new }
 {
     layout::clear(mem, words);

@@ -14,8 +14,8 @@ use rules::Operation;
 
 // What domain d's operation comes to.
 pub fn decide(mem: &[u32], d: u32, op: Operation) -> Decided
-    requires fact_1 { Enough mem.now }
-    requires fact_2 { d < domains_most }
+    requires enough { Enough mem.now }
+    requires d_in_range { d < domains_most }
     ensures { Decides result (decide_rule (state_of mem.now) d op) (looks (state_of mem.now) d (named op.number) op) }
 {
     let number = op.number;

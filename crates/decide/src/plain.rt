@@ -19,8 +19,8 @@ pub fn idle() -> Decided
 
 // Slot x of domain d for a frame with that right, and w one of its words: at most one visit.
 fn word_for(mem: &[u32], d: u32, x: u32, w: u32, right: u32) -> Looked
-    requires fact_1 { Enough mem.now }
-    requires fact_2 { d < domains_most }
+    requires enough { Enough mem.now }
+    requires d_in_range { d < domains_most }
     ensures { Looks result (state_of mem.now) d x (word_for (state_of mem.now) d x w right) 0 }
 {
     let k = slot_for(mem, d, x, FRAME, right);
@@ -38,8 +38,8 @@ fn word_for(mem: &[u32], d: u32, x: u32, w: u32, right: u32) -> Looked
 }
 
 pub fn load(mem: &[u32], d: u32, x: u32, w: u32) -> Decided
-    requires fact_1 { Enough mem.now }
-    requires fact_2 { d < domains_most }
+    requires enough { Enough mem.now }
+    requires d_in_range { d < domains_most }
     ensures { Decides result (load_rule (state_of mem.now) d x w) (seen x) }
 {
     let k = word_for(mem, d, x, w, READ);
@@ -54,8 +54,8 @@ pub fn load(mem: &[u32], d: u32, x: u32, w: u32) -> Decided
 }
 
 pub fn store(mem: &[u32], d: u32, x: u32, w: u32, v: u32) -> Decided
-    requires fact_1 { Enough mem.now }
-    requires fact_2 { d < domains_most }
+    requires enough { Enough mem.now }
+    requires d_in_range { d < domains_most }
     ensures { Decides result (store_rule (state_of mem.now) d x w v) (seen x) }
 {
     let k = word_for(mem, d, x, w, WRITE);
@@ -87,8 +87,8 @@ fn derived(c: Capability, place: u32, r: u32, b: u32) -> Capability
 }
 
 pub fn derive(mem: &[u32], d: u32, x: u32, t: u32, r: u32, b: u32) -> Decided
-    requires fact_1 { Enough mem.now }
-    requires fact_2 { d < domains_most }
+    requires enough { Enough mem.now }
+    requires d_in_range { d < domains_most }
     ensures { Decides result (derive_rule (state_of mem.now) d x t r b) (looks_derive (state_of mem.now) d x t) }
 {
     let k = any_slot(mem, d, x, 0);
@@ -113,8 +113,8 @@ pub fn derive(mem: &[u32], d: u32, x: u32, t: u32, r: u32, b: u32) -> Decided
 }
 
 pub fn delete(mem: &[u32], d: u32, x: u32) -> Decided
-    requires fact_1 { Enough mem.now }
-    requires fact_2 { d < domains_most }
+    requires enough { Enough mem.now }
+    requires d_in_range { d < domains_most }
     ensures { Decides result (delete_rule (state_of mem.now) d x) (seen x) }
 {
     let k = any_slot(mem, d, x, 0);
@@ -125,8 +125,8 @@ pub fn delete(mem: &[u32], d: u32, x: u32) -> Decided
 }
 
 pub fn revoke(mem: &[u32], d: u32, x: u32) -> Decided
-    requires fact_1 { Enough mem.now }
-    requires fact_2 { d < domains_most }
+    requires enough { Enough mem.now }
+    requires d_in_range { d < domains_most }
     ensures { Decides result (revoke_rule (state_of mem.now) d x) (seen x) }
 {
     let k = any_slot(mem, d, x, 0);
@@ -137,8 +137,8 @@ pub fn revoke(mem: &[u32], d: u32, x: u32) -> Decided
 }
 
 pub fn ring(mem: &[u32], d: u32, x: u32) -> Decided
-    requires fact_1 { Enough mem.now }
-    requires fact_2 { d < domains_most }
+    requires enough { Enough mem.now }
+    requires d_in_range { d < domains_most }
     ensures { Decides result (ring_rule (state_of mem.now) d x) (seen x) }
 {
     let k = slot_for(mem, d, x, BELL, WRITE);
@@ -153,8 +153,8 @@ pub fn ring(mem: &[u32], d: u32, x: u32) -> Decided
 }
 
 pub fn hear(mem: &[u32], d: u32, x: u32) -> Decided
-    requires fact_1 { Enough mem.now }
-    requires fact_2 { d < domains_most }
+    requires enough { Enough mem.now }
+    requires d_in_range { d < domains_most }
     ensures { Decides result (hear_rule (state_of mem.now) d x) (seen x) }
 {
     let k = slot_for(mem, d, x, BELL, READ);
@@ -169,8 +169,8 @@ pub fn hear(mem: &[u32], d: u32, x: u32) -> Decided
 }
 
 pub fn look(mem: &[u32], d: u32, x: u32) -> Decided
-    requires fact_1 { Enough mem.now }
-    requires fact_2 { d < domains_most }
+    requires enough { Enough mem.now }
+    requires d_in_range { d < domains_most }
     ensures { Decides result (look_rule (state_of mem.now) d x) (seen x) }
 {
     let k = any_slot(mem, d, x, 0);

@@ -1,4 +1,6 @@
 // Document 03: what a domain could ever hold, and what may flow where.
+#![tactic(auto)]
+
 ghost use Rattle.std.specs.Prelude.{◌≡◌, ◌+◌, ◌*◌, ◌/◌, ◌^◌, ◌≤◌, ◌<◌, length};
 ghost use Rattle.rules.specs.Sizes.{domains_most, mailboxes, entries_most};
 ghost use Rattle.flow.specs.Masks.{In, row, Meeting, United, Taken, Spread, Themselves, sums};
@@ -21,9 +23,9 @@ fn one(d: usize) -> u32
 
 // One row more: it is in the mask where it meets the other.
 fn meet(rows: &[u32], mask: u32, a: usize, r: u32) -> u32
-    requires fact_1 { length rows.now ≡ domains_most }
-    requires fact_2 { a < domains_most }
-    requires fact_3 { Meeting rows.now mask a r }
+    requires rows_length { length rows.now ≡ domains_most }
+    requires a_in_range { a < domains_most }
+    requires meeting { Meeting rows.now mask a r }
     ensures { Meeting rows.now mask (a + 1) result }
 {
     let both = rows[a] & mask;
@@ -47,9 +49,9 @@ fn meeting(rows: &[u32], mask: u32) -> u32
 
 // One cell more: what it has is in the mask where it is chosen.
 fn unite(cells: &[u32], first: usize, k: usize, which: u32, r: u32) -> u32
-    requires fact_1 { first + k < length cells.now }
-    requires fact_2 { k < domains_most }
-    requires fact_3 { United cells.now first k which r }
+    requires cell_in_range { first + k < length cells.now }
+    requires k_in_range { k < domains_most }
+    requires united { United cells.now first k which r }
     ensures { United cells.now first (k + 1) which result }
 {
     let digit = (which >> k) % 2;
@@ -61,8 +63,8 @@ fn unite(cells: &[u32], first: usize, k: usize, which: u32, r: u32) -> u32
 
 // What those of n cells that are chosen have together.
 fn united(cells: &[u32], first: usize, n: usize, which: u32) -> u32
-    requires fact_1 { first + n ≤ length cells.now }
-    requires fact_2 { n ≤ domains_most }
+    requires cells_long_enough { first + n ≤ length cells.now }
+    requires n_in_range { n ≤ domains_most }
     ensures { United cells.now first n which result }
 {
     let mut r = 0;
@@ -74,8 +76,8 @@ fn united(cells: &[u32], first: usize, n: usize, which: u32) -> u32
 
 // One row more: it takes a mask in where it is chosen.
 fn take(rows: &mut [u32], which: u32, what: u32, a: usize)
-    requires fact_1 { length rows.old ≡ domains_most }
-    requires fact_2 { a < domains_most }
+    requires rows_length { length rows.old ≡ domains_most }
+    requires a_in_range { a < domains_most }
     ensures { Taken which what a rows.old rows.new }
 {
     let digit = (which >> a) % 2;
@@ -108,9 +110,9 @@ fn total(rows: &[u32]) -> u64
 
 // Rule 2 over mailbox m: those that could hold it with READ take in what those have together that could hold it with WRITE and GRANT.
 fn pass(cells: &[u32], rows: &mut [u32], m: usize)
-    requires fact_1 { length cells.now ≡ cells_all }
-    requires fact_2 { length rows.old ≡ domains_most }
-    requires fact_3 { m < mailboxes }
+    requires cells_length { length cells.now ≡ cells_all }
+    requires rows_length { length rows.old ≡ domains_most }
+    requires m_in_range { m < mailboxes }
     ensures { Passed cells.now m (m + 1) rows.old rows.new }
 {
     let first = (256 + m) * 8;
@@ -124,8 +126,8 @@ fn pass(cells: &[u32], rows: &mut [u32], m: usize)
 
 // Rule 2 over each mailbox once.
 fn round(cells: &[u32], rows: &mut [u32])
-    requires fact_1 { length cells.now ≡ cells_all }
-    requires fact_2 { length rows.old ≡ domains_most }
+    requires cells_length { length cells.now ≡ cells_all }
+    requires rows_length { length rows.old ≡ domains_most }
     ensures { Passed cells.now 0 mailboxes rows.old rows.new }
 {
     for m in 0..64 {
@@ -135,8 +137,8 @@ fn round(cells: &[u32], rows: &mut [u32])
 
 // Rule 2 until a round adds nothing. Each but the last makes the sum of the rows greater.
 fn reach(cells: &[u32], rows: &mut [u32])
-    requires fact_1 { length cells.now ≡ cells_all }
-    requires fact_2 { Themselves rows.old }
+    requires cells_length { length cells.now ≡ cells_all }
+    requires themselves { Themselves rows.old }
     ensures { Reach cells.now rows.new }
 {
     let mut before = 0;
@@ -176,8 +178,8 @@ fn entries_at(image: &[u8]) -> usize
 
 // Entry number i.
 fn entry_no(image: &[u8], i: usize) -> Fields
-    requires fact_1 { Accepted image.now }
-    requires fact_2 { i < size_c image.now }
+    requires accepted { Accepted image.now }
+    requires i_in_range { i < size_c image.now }
     ensures { Listed image.now i result }
 {
     let at = entries_at(image) + 12 * i;
@@ -201,9 +203,9 @@ fn number(kind: u32, object: u32) -> usize
 
 // The cell of an entry's triple.
 fn cell(e: Fields) -> usize
-    requires fact_1 { e.object < 65536 }
-    requires fact_2 { e.rights < rights_all }
-    requires fact_3 { number_of e.kind e.object < objects_all }
+    requires object_in_range { e.object < 65536 }
+    requires rights_in_range { e.rights < rights_all }
+    requires number_in_range { number_of e.kind e.object < objects_all }
     ensures { (result ≡ cell_of (triple_of (said e))) × (result < cells_all) }
 {
     number(e.kind, e.object) * 8 + e.rights as usize
@@ -211,9 +213,9 @@ fn cell(e: Fields) -> usize
 
 // One entry more: its domain is in its cell.
 fn note(image: &[u8], cells: &mut [u32], i: usize)
-    requires fact_1 { Accepted image.now }
-    requires fact_2 { i < size_c image.now }
-    requires fact_3 { Noted image.now i cells.old }
+    requires accepted { Accepted image.now }
+    requires i_in_range { i < size_c image.now }
+    requires noted { Noted image.now i cells.old }
     ensures { Noted image.now (i + 1) cells.new }
 {
     let e = entry_no(image, i);
@@ -224,8 +226,8 @@ fn note(image: &[u8], cells: &mut [u32], i: usize)
 
 // Each entry's domain is in its cell.
 fn notes(image: &[u8], cells: &mut [u32])
-    requires fact_1 { Accepted image.now }
-    requires fact_2 { Noted image.now 0 cells.old }
+    requires accepted { Accepted image.now }
+    requires noted { Noted image.now 0 cells.old }
     ensures { Noted image.now (size_c image.now) cells.new }
 {
     let n = count(image);
@@ -238,11 +240,11 @@ fn notes(image: &[u8], cells: &mut [u32])
 
 // 1 where domain d could hold the triple of entry i, else 0.
 fn held(image: &[u8], cells: &[u32], rows: &[u32], d: usize, i: usize) -> u8
-    requires fact_1 { Accepted image.now }
-    requires fact_2 { Noted image.now (size_c image.now) cells.now }
-    requires fact_3 { Reach cells.now rows.now }
-    requires fact_4 { d < domains_most }
-    requires fact_5 { i < size_c image.now }
+    requires accepted { Accepted image.now }
+    requires noted { Noted image.now (size_c image.now) cells.now }
+    requires reach { Reach cells.now rows.now }
+    requires d_in_range { d < domains_most }
+    requires i_in_range { i < size_c image.now }
     ensures { Tells result (CouldHold (image_of image.now) d (triple_of (entry_numbered image.now i))) }
 {
     let e = entry_no(image, i);
@@ -256,11 +258,11 @@ fn held(image: &[u8], cells: &[u32], rows: &[u32], d: usize, i: usize) -> u8
 
 // The same for each domain and entry, in rows of n entries.
 fn hold_all(image: &[u8], cells: &[u32], rows: &[u32], out: &mut [u8], n: usize)
-    requires fact_1 { Accepted image.now }
-    requires fact_2 { Noted image.now (size_c image.now) cells.now }
-    requires fact_3 { Reach cells.now rows.now }
-    requires fact_4 { n ≡ size_c image.now }
-    requires fact_5 { size_d image.now * n ≤ length out.old }
+    requires accepted { Accepted image.now }
+    requires noted { Noted image.now (size_c image.now) cells.now }
+    requires reach { Reach cells.now rows.now }
+    requires n_is { n ≡ size_c image.now }
+    requires out_long_enough { size_d image.now * n ≤ length out.old }
     ensures { Filled (HoldsAt image.now n) (size_d image.now * n) out.old out.new }
 {
     let size = domains(image) * n;
@@ -297,9 +299,9 @@ pub fn could_hold(image: &[u8], out: &mut [u8]) -> u32
 
 // The domains that could hold object o with one of those rights.
 fn users(cells: &[u32], rows: &[u32], o: usize, rights: u32) -> u32
-    requires fact_1 { length cells.now ≡ cells_all }
-    requires fact_2 { length rows.now ≡ domains_most }
-    requires fact_3 { o < objects_all }
+    requires cells_length { length cells.now ≡ cells_all }
+    requires rows_length { length rows.now ≡ domains_most }
+    requires o_in_range { o < objects_all }
     ensures { Users cells.now rows.now o rights result }
 {
     let holders = united(cells, o * 8, 8, rights);
@@ -309,10 +311,10 @@ fn users(cells: &[u32], rows: &[u32], o: usize, rights: u32) -> u32
 // Direct flow over object o. A frame: from writers to readers. A mailbox: from writers and readers to writers and readers. A bell: from
 // writers to readers, who ring and hear, and from readers to readers.
 fn link(cells: &[u32], rows: &[u32], flows: &mut [u32], o: usize)
-    requires fact_1 { length cells.now ≡ cells_all }
-    requires fact_2 { length rows.now ≡ domains_most }
-    requires fact_3 { length flows.old ≡ domains_most }
-    requires fact_4 { o < objects_all }
+    requires cells_length { length cells.now ≡ cells_all }
+    requires rows_length { length rows.now ≡ domains_most }
+    requires flows_length { length flows.old ≡ domains_most }
+    requires o_in_range { o < objects_all }
     ensures { Added (Link cells.now rows.now) o (o + 1) flows.old flows.new }
 {
     let writers = users(cells, rows, o, 204);
@@ -331,9 +333,9 @@ fn link(cells: &[u32], rows: &[u32], flows: &mut [u32], o: usize)
 
 // Direct flow over each object.
 fn links(cells: &[u32], rows: &[u32], flows: &mut [u32])
-    requires fact_1 { length cells.now ≡ cells_all }
-    requires fact_2 { length rows.now ≡ domains_most }
-    requires fact_3 { length flows.old ≡ domains_most }
+    requires cells_length { length cells.now ≡ cells_all }
+    requires rows_length { length rows.now ≡ domains_most }
+    requires flows_length { length flows.old ≡ domains_most }
     ensures { Added (Link cells.now rows.now) 0 objects_all flows.old flows.new }
 {
     for o in 0..384 {
@@ -343,9 +345,9 @@ fn links(cells: &[u32], rows: &[u32], flows: &mut [u32])
 
 // Direct flow from the domain of entry i's source to the domain of the entry. Without a source the source's domain is 255.
 fn derive(image: &[u8], flows: &mut [u32], i: usize)
-    requires fact_1 { Accepted image.now }
-    requires fact_2 { i < size_c image.now }
-    requires fact_3 { length flows.old ≡ domains_most }
+    requires accepted { Accepted image.now }
+    requires i_in_range { i < size_c image.now }
+    requires flows_length { length flows.old ≡ domains_most }
     ensures { Added (Source image.now) i (i + 1) flows.old flows.new }
 {
     let e = entry_no(image, i);
@@ -358,8 +360,8 @@ fn derive(image: &[u8], flows: &mut [u32], i: usize)
 
 // The same for each entry.
 fn derives(image: &[u8], flows: &mut [u32])
-    requires fact_1 { Accepted image.now }
-    requires fact_2 { length flows.old ≡ domains_most }
+    requires accepted { Accepted image.now }
+    requires flows_length { length flows.old ≡ domains_most }
     ensures { Added (Source image.now) 0 (size_c image.now) flows.old flows.new }
 {
     let n = count(image);
@@ -372,8 +374,8 @@ fn derives(image: &[u8], flows: &mut [u32])
 
 // Whoever flows to k flows to where k flows.
 fn join(flows: &mut [u32], k: usize)
-    requires fact_1 { length flows.old ≡ domains_most }
-    requires fact_2 { k < domains_most }
+    requires flows_length { length flows.old ≡ domains_most }
+    requires k_in_range { k < domains_most }
     ensures { Joined k flows.old flows.new }
 {
     let to = flows[k];
@@ -394,8 +396,8 @@ fn close(flows: &mut [u32])
 
 // What may flow where, from rows that have themselves alone.
 fn weave(image: &[u8], flows: &mut [u32])
-    requires fact_1 { Accepted image.now }
-    requires fact_2 { Themselves flows.old }
+    requires accepted { Accepted image.now }
+    requires themselves { Themselves flows.old }
     ensures { Whole image.now flows.new }
 {
     let mut cells = [0u32; 3072];
@@ -419,9 +421,9 @@ fn digit(rows: &[u32], x: usize, y: usize) -> u8
 
 // The same for each of n domains and each, in rows of n.
 fn digits(rows: &[u32], out: &mut [u8], n: usize)
-    requires fact_1 { length rows.now ≡ domains_most }
-    requires fact_2 { n ≤ domains_most }
-    requires fact_3 { n * n ≤ length out.old }
+    requires rows_length { length rows.now ≡ domains_most }
+    requires n_in_range { n ≤ domains_most }
+    requires out_long_enough { n * n ≤ length out.old }
     ensures { Filled (InAt rows.now n) (n * n) out.old out.new }
 {
     let size = n * n;

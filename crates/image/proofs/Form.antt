@@ -91,12 +91,12 @@ entries_cons b (suc n) i l = let z : suc n - 1 ≡ n = omega arith in rw z
 
 module _ (f : Entry → Bool) (w : Bool) (b : List ℕ) (n i : ℕ) (e : Entry) (r : Bool) (left : 0 < n) (here : e ≡ entry_at b i) (test : r ≡ f e) where
   -- one more entry that passes
-  pub entries-turn : not r ≡ false → all f (entries_from b n i) ≡ w → all f (entries_from b (n - 1) (i + entry_bytes)) ≡ w
-  entries-turn t = all_turn f w _ _ _ (entries_cons b n i left) (ap f (sym here) ∙ (sym test ∙ not-false r t))
+  pub entries-turn : r ≡ true → all f (entries_from b n i) ≡ w → all f (entries_from b (n - 1) (i + entry_bytes)) ≡ w
+  entries-turn t = all_turn f w _ _ _ (entries_cons b n i left) (ap f (sym here) ∙ (sym test ∙ t))
 
   -- an entry that fails
-  pub entries-stop : not r ≡ true → all f (entries_from b n i) ≡ w → false ≡ w
-  entries-stop t = all_stop f w _ _ _ (entries_cons b n i left) (ap f (sym here) ∙ (sym test ∙ not-true r t))
+  pub entries-stop : r ≡ false → all f (entries_from b n i) ≡ w → false ≡ w
+  entries-stop t = all_stop f w _ _ _ (entries_cons b n i left) (ap f (sym here) ∙ (sym test ∙ t))
 
 -- no entry is left
 pub entries_end : (f : Entry → Bool) (w : Bool) (b : List ℕ) (n i : ℕ) → n ≤ 0 → all f (entries_from b n i) ≡ w → true ≡ w
@@ -141,9 +141,9 @@ rises_end w b next (suc n) i l h = absurd (omega arith)
 -- ---- the first that applies
 
 -- the length that passes 22
-pub whole_law : (b : List ℕ) (r : Bool) → r ≡ right_length b → not r ≡ false → Whole b
+pub whole_law : (b : List ℕ) (r : Bool) → r ≡ right_length b → r ≡ true → Whole b
 unfolding right_length length_for entries_at padded
-whole_law b r p t = record { long = eqb-true _ _ (sym p ∙ not-false r t) }
+whole_law b r p t = record { long = eqb-true _ _ (sym p ∙ t) }
 
 pub short_law : (b : List ℕ) → length b < header_bytes → ◌≡◌ {A = ℕ} 20 (refusal_of_form b)
 unfolding refusal_of_form ◌then◌else◌
@@ -151,37 +151,37 @@ short_law b h = rw (lt-leb header_bytes (length b) h)
 
 -- the tests of 21 to 25, as far as they were made: each passed but the last
 module _ (b : List ℕ) (long : header_bytes ≤ length b) (r1 : Bool) (p1 : r1 ≡ right_sizes b) where
-  pub sizes_law : not r1 ≡ true → ◌≡◌ {A = ℕ} 21 (refusal_of_form b)
+  pub sizes_law : r1 ≡ false → ◌≡◌ {A = ℕ} 21 (refusal_of_form b)
   unfolding refusal_of_form ◌then◌else◌
-  sizes_law t = rw (le-leb header_bytes (length b) long, ← p1, not-true r1 t)
+  sizes_law t = rw (le-leb header_bytes (length b) long, ← p1, t)
 
-  module _ (t1 : not r1 ≡ false) (r2 : Bool) (p2 : r2 ≡ right_length b) where
-    pub length_law : not r2 ≡ true → ◌≡◌ {A = ℕ} 22 (refusal_of_form b)
+  module _ (t1 : r1 ≡ true) (r2 : Bool) (p2 : r2 ≡ right_length b) where
+    pub length_law : r2 ≡ false → ◌≡◌ {A = ℕ} 22 (refusal_of_form b)
     unfolding refusal_of_form ◌then◌else◌
-    length_law t = rw (le-leb header_bytes (length b) long, ← p1, not-false r1 t1, ← p2, not-true r2 t)
+    length_law t = rw (le-leb header_bytes (length b) long, ← p1, t1, ← p2, t)
 
-    module _ (t2 : not r2 ≡ false) (r3 : Bool) (p3 : r3 ≡ right_turns b) where
-      pub table_law : not r3 ≡ true → ◌≡◌ {A = ℕ} 23 (refusal_of_form b)
+    module _ (t2 : r2 ≡ true) (r3 : Bool) (p3 : r3 ≡ right_turns b) where
+      pub table_law : r3 ≡ false → ◌≡◌ {A = ℕ} 23 (refusal_of_form b)
       unfolding refusal_of_form ◌then◌else◌
-      table_law t = rw (le-leb header_bytes (length b) long, ← p1, not-false r1 t1, ← p2, not-false r2 t2, ← p3, not-true r3 t)
+      table_law t = rw (le-leb header_bytes (length b) long, ← p1, t1, ← p2, t2, ← p3, t)
 
-      module _ (t3 : not r3 ≡ false) (r4 : Bool) (p4 : r4 ≡ all (right_entry (size_d b) (size_f b)) (entries_of b)) where
-        pub entries_law : not r4 ≡ true → ◌≡◌ {A = ℕ} 24 (refusal_of_form b)
+      module _ (t3 : r3 ≡ true) (r4 : Bool) (p4 : r4 ≡ all (right_entry (size_d b) (size_f b)) (entries_of b)) where
+        pub entries_law : r4 ≡ false → ◌≡◌ {A = ℕ} 24 (refusal_of_form b)
         unfolding refusal_of_form ◌then◌else◌ image_of
         entries_law t =
-            rw (le-leb header_bytes (length b) long, ← p1, not-false r1 t1, ← p2, not-false r2 t2, ← p3, not-false r3 t3, ← p4, not-true r4 t)
+            rw (le-leb header_bytes (length b) long, ← p1, t1, ← p2, t2, ← p3, t3, ← p4, t)
 
-        module _ (t4 : not r4 ≡ false) (r5 : Bool) (p5 : r5 ≡ rising (entries_of b)) where
+        module _ (t4 : r4 ≡ true) (r5 : Bool) (p5 : r5 ≡ rising (entries_of b)) where
           -- those before 25 passed
           rises_is : refusal_of_form b ≡ (0 then r5 else 25)
           unfolding refusal_of_form ◌then◌else◌ image_of
           rises_is =
-              rw (le-leb header_bytes (length b) long, ← p1, not-false r1 t1, ← p2, not-false r2 t2, ← p3, not-false r3 t3, ← p4, not-false r4 t4, ← p5)
+              rw (le-leb header_bytes (length b) long, ← p1, t1, ← p2, t2, ← p3, t3, ← p4, t4, ← p5)
 
-          pub rises_law : not r5 ≡ true → ◌≡◌ {A = ℕ} 25 (refusal_of_form b)
+          pub rises_law : r5 ≡ false → ◌≡◌ {A = ℕ} 25 (refusal_of_form b)
           unfolding ◌then◌else◌
-          rises_law t = rw (rises_is, not-true r5 t)
+          rises_law t = rw (rises_is, t)
 
-          pub form_law : not r5 ≡ false → ◌≡◌ {A = ℕ} 0 (refusal_of_form b)
+          pub form_law : r5 ≡ true → ◌≡◌ {A = ℕ} 0 (refusal_of_form b)
           unfolding ◌then◌else◌
-          form_law t = rw (rises_is, not-false r5 t)
+          form_law t = rw (rises_is, t)

@@ -152,17 +152,17 @@ pass_none b =
 
 -- one more entry, whose climb ends
 pub pass-turn : (b : List ℕ) (count i p : ℕ) (r : Bool) (m n : List ℕ) → Passed b i m → count ≡ size_c b → i < count → p ≡ place_of (entry_of b i)
-    → Climbed (given_by b) p (i + 1) r m n → not r ≡ false → Passed b (i + 1) n
+    → Climbed (given_by b) p (i + 1) r m n → r ≡ true → Passed b (i + 1) n
 pass-turn b count i p r m n f h l e c t =
     record {
       most = omega arith;
-      marked = c.marked (not-false r t);
+      marked = c.marked t;
       each = below_more (λ j. get_or n (place_of (entry_of b j)) 0 ≡ 0 → ⊥) i (λ j k. c.kept _ (f.each j k)) (rw e at c.here);
     }
 
 -- a climb that comes back
-pub pass-stop : (at : Places) (p k : ℕ) (r : Bool) (m n : List ℕ) → Climbed at p k r m n → not r ≡ true → NoReturn at false
-pass-stop at p k r m n c t = record { none = λ u. absurd (false≢true u); back = λ u. c.back (not-true r t) }
+pub pass-stop : (at : Places) (p k : ℕ) (r : Bool) (m n : List ℕ) → Climbed at p k r m n → r ≡ false → NoReturn at false
+pass-stop at p k r m n c t = record { none = λ u. absurd (false≢true u); back = λ u. c.back t }
 
 -- where all have passed, following sources comes back from no place: one with a source is entered
 pub pass_end : (b : List ℕ) (count i : ℕ) (m : List ℕ) → Passed b i m → count ≡ size_c b → count ≤ i → NoReturn (given_by b) true

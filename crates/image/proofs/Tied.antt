@@ -27,13 +27,13 @@ refused-before b zero h n = absurd (n refl)
 refused-before b (suc r) h n = rw (← h)
 
 module _ (b : List ℕ) (r : ℕ) (h : r ≡ refusal_of_form b) (z : r ≡ 0) (s : Bool) (k : s ≡ all (right_source (entries_of b)) (entries_of b)) where
-  pub accepted_law : not s ≡ false → 0 ≡ refusal_of b
+  pub accepted_law : s ≡ true → 0 ≡ refusal_of b
   unfolding refusal_of ◌then◌else◌
-  accepted_law t = rw (← h, z, ← k, not-false s t)
+  accepted_law t = rw (← h, z, ← k, t)
 
-  pub refused_law : not s ≡ true → ◌≡◌ {A = ℕ} 26 (refusal_of b)
+  pub refused_law : s ≡ false → ◌≡◌ {A = ℕ} 26 (refusal_of b)
   unfolding refusal_of ◌then◌else◌
-  refused_law t = rw (← h, z, ← k, not-true s t)
+  refused_law t = rw (← h, z, ← k, t)
 
 -- bytes that are not refused below 26
 pub formed_law : (b : List ℕ) (r : ℕ) → r ≡ refusal_of_form b → r ≡ 0 → Formed b
@@ -151,9 +151,9 @@ module _ (b : List ℕ) (f : Formed b) where
   tied-right e = weaker (sourceless e) _ _
 
   -- an entry whose source is not right
-  pub untied_law : (r : Bool) → r ≡ all (tied es) es → not r ≡ true → false ≡ all (right_source es) es
+  pub untied_law : (r : Bool) → r ≡ all (tied es) es → r ≡ false → false ≡ all (right_source es) es
   untied_law r h n =
-      ⊎_elim (λ t. absurd (not_both (all_of (tied es) es (λ e m. tied-right e (all_at (right_source es) m t))) (sym h ∙ not-true r n)))
+      ⊎_elim (λ t. absurd (not_both (all_of (tied es) es (λ e m. tied-right e (all_at (right_source es) m t))) (sym h ∙ n)))
       (λ u. sym u) (decided_by (all (right_source es) es))
 
   module _ (tie : all (tied es) es ≡ true) where
@@ -193,13 +193,13 @@ module _ (b : List ℕ) (f : Formed b) where
     right_law true h = sym (right-ends (h.none refl))
     right_law false h =
         ⊎_elim (λ t.
-        absurd (((accepted_exactly b f.refusal).0 (sym (accepted_law b _ (sym f.refusal) refl _ refl (ap not t)))).section4.no_return (h.back refl).1))
+        absurd (((accepted_exactly b f.refusal).0 (sym (accepted_law b _ (sym f.refusal) refl _ refl t))).section4.no_return (h.back refl).1))
         (λ n. sym n) (decided_by (all (right_source es) es))
 
   -- what a climb goes by
-  pub linked_law : (index : List ℕ) → Indexed b index → (r : Bool) → r ≡ all (tied es) es → not r ≡ false → Linked b index
-  linked_law index x r h t = record { formed = f; indexed = x; slots = sources-low (sym h ∙ not-false r t) }
+  pub linked_law : (index : List ℕ) → Indexed b index → (r : Bool) → r ≡ all (tied es) es → r ≡ true → Linked b index
+  linked_law index x r h t = record { formed = f; indexed = x; slots = sources-low (sym h ∙ t) }
 
   -- what the climbs come to
-  pub ends_law : (r : Bool) → r ≡ all (tied es) es → not r ≡ false → (s : Bool) → NoReturn (given es) s → s ≡ all (right_source es) es
-  ends_law r h t = right_law (sym h ∙ not-false r t)
+  pub ends_law : (r : Bool) → r ≡ all (tied es) es → r ≡ true → (s : Bool) → NoReturn (given es) s → s ≡ all (right_source es) es
+  ends_law r h t = right_law (sym h ∙ t)

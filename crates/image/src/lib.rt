@@ -2,6 +2,8 @@
 // of entries. Numbers of two bytes have the high byte first. Refusals 20 to 25 are tested in their order, each by a function of its own,
 // which may rely on the tests before it. Refusal 26 comes last: an index from places to entries finds the entry that defines a source at
 // once, and marks at places find a chain of sources that comes back, each place being passed once.
+#![tactic(auto)]
+
 ghost use Rattle.std.specs.Prelude.{◌≡◌, ◌+◌, ◌-◌, ◌*◌, ◌/◌, ◌≤◌, ◌<◌, ltb, length, take, drop};
 ghost use Rattle.rules.specs.Sizes.{all_slots};
 ghost use Rattle.rules.specs.State.{objects as objects_of};
@@ -31,7 +33,7 @@ const BELL: u32 = 3;
 const GRANT: u32 = 4;
 
 // The fields of an entry.
-#[derive(Drop)]
+#[derive(Clone, Copy)]
 pub struct Fields {
     pub domain: u32,
     pub slot: u32,
@@ -253,8 +255,8 @@ fn capability_of(e: Fields) -> Capability
 
 // The place of entry i, counted from 0.
 fn place(image: &[u8], i: usize) -> usize
-    requires fact_1 { Formed image.now }
-    requires fact_2 { i < size_c image.now }
+    requires formed { Formed image.now }
+    requires i_in_range { i < size_c image.now }
     ensures { (result ≡ place_of (entry_at image.now (entries_at (size_t image.now) + entry_bytes * i))) × (result < all_slots) }
 {
     let e = entry(image, entries_at(image) + ENTRY * i);
@@ -277,8 +279,8 @@ fn index_of(image: &[u8]) -> [u16; ALL_SLOTS]
 
 // What the entries give at place p.
 fn given_at(image: &[u8], index: &[u16; ALL_SLOTS], p: usize) -> Capability
-    requires fact_1 { Formed image.now }
-    requires fact_2 { Indexed image.now index.now }
+    requires formed { Formed image.now }
+    requires indexed { Indexed image.now index.now }
     ensures { result ≡ given_by image.now p }
 {
     if p < ALL_SLOTS {
@@ -308,9 +310,9 @@ fn fits(c: Capability, p: Capability) -> bool
 
 // Refusal 26 for one entry, but for where following sources leads: it has no source, or one that an entry defines and that it fits.
 fn source_tied(image: &[u8], index: &[u16; ALL_SLOTS], e: Fields) -> bool
-    requires fact_1 { Formed image.now }
-    requires fact_2 { Indexed image.now index.now }
-    requires fact_3 { (e.source_domain < 256) × (e.source_slot < 256) }
+    requires formed { Formed image.now }
+    requires indexed { Indexed image.now index.now }
+    requires source_in_bytes { (e.source_domain < 256) × (e.source_slot < 256) }
     ensures { result ≡ tied (entries_of image.now) (said e) }
 {
     let c = capability_of(e);
@@ -326,8 +328,8 @@ fn source_tied(image: &[u8], index: &[u16; ALL_SLOTS], e: Fields) -> bool
 
 // The same for every entry.
 fn sources_tied(image: &[u8], index: &[u16; ALL_SLOTS]) -> bool
-    requires fact_1 { Formed image.now }
-    requires fact_2 { Indexed image.now index.now }
+    requires formed { Formed image.now }
+    requires indexed { Indexed image.now index.now }
     ensures { result ≡ all (tied (entries_of image.now)) (entries_of image.now) }
 {
     let mut at = entries_at(image);
@@ -351,9 +353,9 @@ fn climb(
     from: usize,
     mark: u16,
 ) -> bool
-    requires fact_1 { Linked image.now index.now }
-    requires fact_2 { Marked (given_by image.now) mark marks.old }
-    requires fact_3 { from < all_slots }
+    requires linked { Linked image.now index.now }
+    requires marked { Marked (given_by image.now) mark marks.old }
+    requires from_in_range { from < all_slots }
     ensures { Climbed (given_by image.now) from mark result marks.old marks.new }
 {
     let mut p = from;

@@ -13,8 +13,7 @@ use lib.Seq.{get_or-set_same, get_or-set_other}
 use borrow.Author.Tests.{ltb-true, ltb-false, lt-ltb, le-ltb, le-leb, lt-leb, eqb-true, eq-eqb, ne_eqb}
 use Rattle.rules.proofs.Places.{same?}
 use Rattle.rules.specs.Sizes.{frames_most, places, bells, mailboxes, turns_most, frame_words}
-use Rattle.rules.specs.State.{State, whose}
-use Rattle.rules.specs.declared.Capability.{Capability}
+use Rattle.rules.specs.State.{whose}
 use Rattle.layout.specs.Layout.{size, base, cells, listed, of_cells, state_of, Headed, frames_at, words_of, need, HEAD, KIND, RIGHTS, OBJECT, BADGE, SOURCE, BELLS, FULL, FROM, W0, W1, W2, W3}
 
 -- a word of a region

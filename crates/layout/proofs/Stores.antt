@@ -2,21 +2,21 @@
 use mathlib.Core.Path.{◌≡◌, refl, sym, ap, ◌∙◌, subst, fun_ext}
 use mathlib.Core.Bool.{Bool, true, false, cond, ◌&&◌}
 use mathlib.Core.List.{List}
-use mathlib.Core.Logic.{◌⊎◌, inl, inr, ⊎_elim}
-use Prim.Native.Nat.{ℕ, zero, suc, ◌+◌, ◌*◌, ◌^◌, ◌≤◌, ◌<◌}
+use mathlib.Core.Logic.{⊎_elim}
+use Prim.Native.Nat.{ℕ, suc, ◌+◌, ◌*◌, ◌^◌, ◌≤◌, ◌<◌}
 use native.Mathlib.Omega.{arith}
 use native.Mathlib.Nat.{le_antisymm}
 use lib.Dec.{eqb, ltb}
 use lib.ListN.{length, get_or, set, length-set}
 use lib.Seq.{get_or-set_same, get_or-set_other}
-use borrow.Author.Tests.{ltb-true, lt-ltb, le-ltb, eqb-true, eqb-false, eq-eqb, ne_eqb}
+use borrow.Author.Tests.{ltb-true, lt-ltb, eqb-true, eqb-false, eq-eqb, ne_eqb}
 use Rattle.rules.specs.Sizes.{places, bells, mailboxes, frame_words}
 use Rattle.rules.specs.State.{State}
 use Rattle.rules.proofs.Places.{same?}
 use Rattle.rules.specs.Turn.{set as set_at, advance}
 use Rattle.rules.specs.declared.Capability.{Capability}
 use Rattle.rules.specs.declared.Message.{Message}
-use Rattle.layout.specs.Layout.{size, base, cells, listed, of_cells, state_of, frames_at, need, Enough, HEAD, TURNS, KIND, RIGHTS, OBJECT, BADGE, SOURCE, BELLS, FULL, FROM, W0, W1, W2, W3, FRAMES}
+use Rattle.layout.specs.Layout.{size, base, cells, of_cells, state_of, need, Enough, HEAD, TURNS, KIND, RIGHTS, OBJECT, BADGE, SOURCE, BELLS, FULL, FROM, W0, W1, W2, W3, FRAMES}
 use Rattle.layout.specs.Stored.{Stored, placed, resourced, handed, worded, belled, mailed, Placed, Cleared}
 use Rattle.layout.proofs.Cells.{put, cells_at, cells-set, frames_law, head_law, length-listed}
 

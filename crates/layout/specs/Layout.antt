@@ -1,8 +1,8 @@
 -- How a state stands in memory: one region of words for each of its fields, one behind the other, with no word between; the frames last.
 -- Assumes nothing.
-use Rattle.std.specs.Prelude.{◌≡◌, Bool, true, false, cond, ◌&&◌, List, [], ◌∷◌, ℕ, zero, suc, ◌+◌, ◌*◌, ◌^◌, ◌≤◌, ◌<◌, eqb, leb, ltb, length, get_or}
+use Rattle.std.specs.Prelude.{◌≡◌, cond, ◌&&◌, List, [], ◌∷◌, ℕ, zero, suc, ◌+◌, ◌*◌, ◌^◌, ◌≤◌, leb, ltb, length, get_or}
 use Rattle.rules.specs.Sizes.{frames_most, mailboxes, bells, turns_most, places, frame_words}
-use Rattle.rules.specs.State.{State, Section4, Formed}
+use Rattle.rules.specs.State.{State}
 use Rattle.layout.specs.declared.Head.{Head}
 
 -- the regions: the head (D, F, T and the position), the table of turns, the five fields of a place, the bells, the six fields of a message

@@ -1,7 +1,7 @@
 -- What a function that writes memory does to the state that stands there: the contract of every function here that stores.
 -- Assumes nothing.
-use Rattle.std.specs.Prelude.{◌≡◌, cond, List, ℕ, suc, ◌+◌, ◌≤◌, ◌<◌, eqb, length, get_or, set as store}
-use Rattle.rules.specs.State.{State, Places}
+use Rattle.std.specs.Prelude.{◌≡◌, cond, List, ℕ, ◌+◌, ◌≤◌, ◌<◌, eqb, length, get_or, set as store}
+use Rattle.rules.specs.State.{State}
 use Rattle.rules.specs.Turn.{set, changed, with_places}
 use Rattle.rules.specs.declared.Capability.{Capability}
 use Rattle.rules.specs.declared.Message.{Message}

@@ -1,5 +1,7 @@
 // The memory that a state stands in: the only crate that indexes it. Whoever reads or writes what a place holds goes through a
 // function here that counts the visit. A number from memory that is out of range reads as 0 and is not stored to.
+#![tactic(auto)]
+
 ghost use Rattle.std.specs.Prelude.{◌≡◌, cond, suc, ◌+◌, ◌≤◌, ◌<◌, eqb, leb, length, get_or};
 ghost use Rattle.rules.specs.Sizes.{places, bells, mailboxes, turns_most, frame_words};
 ghost use Rattle.rules.specs.State.{whose as turn_of};
@@ -48,7 +50,7 @@ const W3: usize = W2 + BOXES;
 const FRAMES: usize = W3 + BOXES;
 
 // What a place holds, and the visits so far.
-#[derive(Drop)]
+#[derive(Clone, Copy)]
 pub struct Seen {
     pub capability: Capability,
     pub visits: u32,
@@ -56,9 +58,9 @@ pub struct Seen {
 
 // One visit: what place p holds.
 pub fn see(mem: &[u32], p: u32, visits: u32) -> Seen
-    requires fact_1 { Enough mem.now }
-    requires fact_2 { p < places }
-    requires fact_3 { visits < visits_most }
+    requires enough { Enough mem.now }
+    requires p_in_range { p < places }
+    requires visits_left { visits < visits_most }
     ensures { (result.capability ≡ (state_of mem.now).capability p) × (result.visits ≡ visits + 1) }
 {
     let i = p as usize;
@@ -76,9 +78,9 @@ pub fn see(mem: &[u32], p: u32, visits: u32) -> Seen
 
 // One visit: place p holds c.
 pub fn place(mem: &mut [u32], p: u32, c: Capability, visits: u32) -> u32
-    requires fact_1 { Enough mem.old }
-    requires fact_2 { p < places }
-    requires fact_3 { visits < visits_most }
+    requires enough { Enough mem.old }
+    requires p_in_range { p < places }
+    requires visits_left { visits < visits_most }
     ensures { (result ≡ visits + 1) × Stored (p < places) (placed p c) mem.old mem.new }
 {
     let i = p as usize;
@@ -91,7 +93,7 @@ pub fn place(mem: &mut [u32], p: u32, c: Capability, visits: u32) -> u32
 }
 
 // A source, and the visits so far.
-#[derive(Drop)]
+#[derive(Clone, Copy)]
 pub struct Sourced {
     pub source: u32,
     pub visits: u32,
@@ -99,9 +101,9 @@ pub struct Sourced {
 
 // One visit: the source number at place p.
 pub fn source_of(mem: &[u32], p: u32, visits: u32) -> Sourced
-    requires fact_1 { Enough mem.now }
-    requires fact_2 { p < places }
-    requires fact_3 { visits < visits_most }
+    requires enough { Enough mem.now }
+    requires p_in_range { p < places }
+    requires visits_left { visits < visits_most }
     ensures { (result.source ≡ ((state_of mem.now).capability p).source) × (result.visits ≡ visits + 1) }
 {
     Sourced {
@@ -119,9 +121,9 @@ fn swapped(s: u32, x: u32, y: u32) -> u32
 
 // One visit: where the capability at place p has source number x, it gets source number y.
 pub fn hand_over(mem: &mut [u32], p: u32, x: u32, y: u32, visits: u32) -> u32
-    requires fact_1 { Enough mem.old }
-    requires fact_2 { p < places }
-    requires fact_3 { visits < visits_most }
+    requires enough { Enough mem.old }
+    requires p_in_range { p < places }
+    requires visits_left { visits < visits_most }
     ensures { (result ≡ visits + 1) × Stored (p < places) (handed p x y) mem.old mem.new }
 {
     let i = SOURCE + p as usize;
@@ -232,7 +234,7 @@ pub fn whose(mem: &[u32]) -> u32
 }
 
 // The head of a state: D, F, how many turns the table has, and the position in it.
-#[derive(Drop)]
+#[derive(Clone, Copy)]
 pub struct Head {
     pub domains: u32,
     pub frames: u32,
@@ -333,8 +335,8 @@ pub fn set_head(mem: &mut [u32], domains: u32, frames: u32, turns: u32)
 
 // Turn i of the table is domain d's.
 pub fn set_turn(mem: &mut [u32], i: usize, d: u32)
-    requires fact_1 { frames_at ≤ length mem.old }
-    requires fact_2 { i < turns_most }
+    requires mem_long_enough { frames_at ≤ length mem.old }
+    requires i_in_range { i < turns_most }
     ensures { mem.new ≡ turning i d mem.old }
 {
     mem[TURNS + i] = d;

@@ -1,5 +1,7 @@
 // Looking a slot up, and how an operation ends: what the checks of every operation share. Each function is exact on any memory that is
 // long enough for the state that it claims to hold.
+#![tactic(auto)]
+
 ghost use Rattle.std.specs.Prelude.{◌≡◌, ◌+◌, ◌*◌, ◌≤◌, ◌<◌};
 ghost use Rattle.rules.specs.Sizes.{domains_most};
 ghost use Rattle.rules.specs.State.{nothing as nothing_rule};
@@ -10,14 +12,14 @@ ghost use Rattle.look.specs.Looks.{refused_by, done_by, Looks};
 use rules::{Answer, Capability, Decision, Effect, SLOTS};
 
 // A decision, and how many places were visited for it.
-#[derive(Drop)]
+#[derive(Clone, Copy)]
 pub struct Decided {
     pub decision: Decision,
     pub visits: u32,
 }
 
 // A refusal, or 0 and what the slot holds; and the visits so far.
-#[derive(Drop)]
+#[derive(Clone, Copy)]
 pub struct Looked {
     pub refusal: u32,
     pub capability: Capability,
@@ -81,9 +83,9 @@ pub fn done(effect: Effect, w: u32, visits: u32) -> Decided
 
 // Slot x of domain d, any kind: at most one visit.
 pub fn any_slot(mem: &[u32], d: u32, x: u32, visits: u32) -> Looked
-    requires fact_1 { Enough mem.now }
-    requires fact_2 { d < domains_most }
-    requires fact_3 { visits < 8 }
+    requires enough { Enough mem.now }
+    requires d_in_range { d < domains_most }
+    requires visits_left { visits < 8 }
     ensures { Looks result (state_of mem.now) d x (any_slot_refusal (state_of mem.now) d x) visits }
 {
     if x >= SLOTS {
@@ -111,8 +113,8 @@ pub fn any_slot(mem: &[u32], d: u32, x: u32, visits: u32) -> Looked
 
 // Slot x of domain d, for that kind with that right: at most one visit.
 pub fn slot_for(mem: &[u32], d: u32, x: u32, kind: u32, right: u32) -> Looked
-    requires fact_1 { Enough mem.now }
-    requires fact_2 { d < domains_most }
+    requires enough { Enough mem.now }
+    requires d_in_range { d < domains_most }
     ensures { Looks result (state_of mem.now) d x (slot_for_refusal (state_of mem.now) d x kind right) 0 }
 {
     let k = any_slot(mem, d, x, 0);

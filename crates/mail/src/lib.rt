@@ -1,4 +1,6 @@
 // The checks of the operations on mailboxes, SEND and RECEIVE: they read memory and give an effect and an answer.
+#![tactic(auto)]
+
 ghost use Rattle.std.specs.Prelude.{◌≡◌, ◌≤◌, ◌<◌};
 ghost use Rattle.rules.specs.Sizes.{domains_most, all_slots, slots, mailboxes};
 ghost use Rattle.rules.specs.Turn.{send as send_rule, receive as receive_rule, copied as copied_rule};
@@ -42,9 +44,9 @@ fn copied(c: Capability, place: u32) -> Capability
 
 // What goes along from slot c of domain d in a SEND by a capability with those rights: nothing where c is 64. At most one visit.
 fn along(mem: &[u32], d: u32, c: u32, rights: u32, visits: u32) -> Looked
-    requires fact_1 { Enough mem.now }
-    requires fact_2 { d < domains_most }
-    requires fact_3 { visits < 8 }
+    requires enough { Enough mem.now }
+    requires d_in_range { d < domains_most }
+    requires visits_left { visits < 8 }
     ensures { Carries result (state_of mem.now) d c rights visits }
 {
     if c >= SLOTS {
@@ -84,8 +86,8 @@ fn along(mem: &[u32], d: u32, c: u32, rights: u32, visits: u32) -> Looked
 }
 
 pub fn send(mem: &[u32], d: u32, op: Operation) -> Decided
-    requires fact_1 { Enough mem.now }
-    requires fact_2 { d < domains_most }
+    requires enough { Enough mem.now }
+    requires d_in_range { d < domains_most }
     ensures { Decides result (send_rule (state_of mem.now) d op.first op.second op.third op.fourth op.fifth op.sixth) (looks_send (state_of mem.now) d op.first op.second) }
 {
     let k = slot_for(mem, d, op.first, MAILBOX, WRITE);
@@ -105,7 +107,7 @@ pub fn send(mem: &[u32], d: u32, op: Operation) -> Decided
 }
 
 // What becomes of a capability under way, the flag that says so, and the visits so far.
-#[derive(Drop)]
+#[derive(Clone, Copy)]
 pub struct Taken {
     pub effect: Effect,
     pub flag: u32,
@@ -124,10 +126,10 @@ fn taking(effect: Effect, flag: u32, visits: u32) -> Taken
 
 // Taking from mailbox m, with t for the capability under way: it moves where there is one and t is an empty slot. At most two visits.
 fn take(mem: &[u32], d: u32, m: u32, t: u32, visits: u32) -> Taken
-    requires fact_1 { Enough mem.now }
-    requires fact_2 { d < domains_most }
-    requires fact_3 { m < mailboxes }
-    requires fact_4 { visits < 8 }
+    requires enough { Enough mem.now }
+    requires d_in_range { d < domains_most }
+    requires m_in_range { m < mailboxes }
+    requires visits_left { visits < 8 }
     ensures { Takes result (state_of mem.now) d m t visits }
 {
     if t >= SLOTS {
@@ -145,8 +147,8 @@ fn take(mem: &[u32], d: u32, m: u32, t: u32, visits: u32) -> Taken
 }
 
 pub fn receive(mem: &[u32], d: u32, x: u32, t: u32) -> Decided
-    requires fact_1 { Enough mem.now }
-    requires fact_2 { d < domains_most }
+    requires enough { Enough mem.now }
+    requires d_in_range { d < domains_most }
     ensures { Decides result (receive_rule (state_of mem.now) d x t) (looks_receive (state_of mem.now) d x t) }
 {
     let k = slot_for(mem, d, x, MAILBOX, READ);

@@ -34,7 +34,7 @@ pub const WRITE: u32 = 2;
 pub const GRANT: u32 = 4;
 
 // What a place holds.
-#[derive(Drop)]
+#[derive(Clone, Copy)]
 pub struct Capability {
     pub kind: u32,
     pub rights: u32,
@@ -44,7 +44,7 @@ pub struct Capability {
 }
 
 // What a mailbox holds, but for a capability under way, which stands in the mailbox's room, a place. full is 0 or 1.
-#[derive(Drop)]
+#[derive(Clone, Copy)]
 pub struct Message {
     pub full: u32,
     pub badge: u32,
@@ -55,7 +55,7 @@ pub struct Message {
 }
 
 // An operation: its number and seven argument words.
-#[derive(Drop)]
+#[derive(Clone, Copy)]
 pub struct Operation {
     pub number: u32,
     pub first: u32,
@@ -68,7 +68,7 @@ pub struct Operation {
 }
 
 // A status, 0 or a refusal number, and six words.
-#[derive(Drop)]
+#[derive(Clone, Copy)]
 pub struct Answer {
     pub status: u32,
     pub w0: u32,
@@ -80,7 +80,7 @@ pub struct Answer {
 }
 
 // What an operation does to the state. It holds nothing that its domain may not see.
-#[derive(Drop)]
+#[derive(Clone, Copy)]
 pub enum Effect {
     Nothing,
     // STORE: the frame, the word's number, its value.
@@ -104,7 +104,7 @@ pub enum Effect {
 }
 
 // What the checks of an operation come to.
-#[derive(Drop)]
+#[derive(Clone, Copy)]
 pub struct Decision {
     pub effect: Effect,
     pub answer: Answer,

@@ -33,17 +33,17 @@ pub fn hush(mem: &mut [u32], b: u32, visits: u32) -> u32
 }
 
 pub fn put(mem: &mut [u32], p: u32, c: Capability, visits: u32) -> u32
-    requires fact_1 { Enough mem.old }
-    requires fact_2 { p < places }
-    requires fact_3 { visits < 8 }
+    requires enough { Enough mem.old }
+    requires p_in_range { p < places }
+    requires visits_left { visits < 8 }
     ensures { Applied mem.old (Put p c) mem.new visits result }
 {
     layout::place(mem, p, c, visits)
 }
 
 pub fn post(mem: &mut [u32], m: u32, g: Message, c: Capability, visits: u32) -> u32
-    requires fact_1 { Enough mem.old }
-    requires fact_2 { visits < 8 }
+    requires enough { Enough mem.old }
+    requires visits_left { visits < 8 }
     ensures { Applied mem.old (Post m g c) mem.new visits result }
 {
     if m >= MAILBOXES {
@@ -55,8 +55,8 @@ pub fn post(mem: &mut [u32], m: u32, g: Message, c: Capability, visits: u32) -> 
 }
 
 pub fn take(mem: &mut [u32], m: u32, visits: u32) -> u32
-    requires fact_1 { Enough mem.old }
-    requires fact_2 { visits < 8 }
+    requires enough { Enough mem.old }
+    requires visits_left { visits < 8 }
     ensures { Applied mem.old (Take m) mem.new visits result }
 {
     let none = Message {
@@ -78,9 +78,9 @@ pub fn take(mem: &mut [u32], m: u32, visits: u32) -> u32
 }
 
 pub fn move_to(mem: &mut [u32], m: u32, p: u32, visits: u32) -> u32
-    requires fact_1 { Enough mem.old }
-    requires fact_2 { p < places }
-    requires fact_3 { visits < 4 }
+    requires enough { Enough mem.old }
+    requires p_in_range { p < places }
+    requires visits_left { visits < 4 }
     ensures { Applied mem.old (Move m p) mem.new visits result }
 {
     if m >= MAILBOXES {

@@ -9,7 +9,7 @@ ghost use Rattle.turn.specs.Visits.{allowed};
 use rules::{Answer, DOMAINS_MOST, Effect, Operation};
 
 // The answer, and how many places were visited.
-#[derive(Drop)]
+#[derive(Clone, Copy)]
 pub struct Turned {
     pub answer: Answer,
     pub visits: u32,
@@ -17,9 +17,9 @@ pub struct Turned {
 
 // The effect is performed, without any check.
 fn apply(mem: &mut [u32], e: Effect, visits: u32) -> u32
-    requires fact_1 { Enough mem.old }
-    requires fact_2 { Named e }
-    requires fact_3 { visits ≤ allowed e }
+    requires enough { Enough mem.old }
+    requires named { Named e }
+    requires visits_left { visits ≤ allowed e }
     ensures { Applied mem.old e mem.new visits result }
 {
     match e {

@@ -28,7 +28,7 @@ const TOO_SMALL: u32 = 28;
 const TOO_SHORT: u32 = 29;
 
 // The answer, 0 or a refusal, and how many bytes the image has, 0 after a refusal.
-#[derive(Drop)]
+#[derive(Clone, Copy)]
 pub struct Written {
     pub status: u32,
     pub size: u32,
@@ -36,8 +36,8 @@ pub struct Written {
 
 // 1 where place p holds a capability, else 0.
 fn held(mem: &[u32], p: u32) -> u32
-    requires fact_1 { Enough mem.now }
-    requires fact_2 { p < places }
+    requires enough { Enough mem.now }
+    requires p_in_range { p < places }
     ensures { (result ≡ length (occupied (state_of mem.now).capability 1 p)) × (result ≤ 1) }
 {
     let seen = layout::see(mem, p, 0);
@@ -50,8 +50,8 @@ fn held(mem: &[u32], p: u32) -> u32
 
 // How many of the first n places hold a capability.
 fn count(mem: &[u32], n: u32) -> u32
-    requires fact_1 { Enough mem.now }
-    requires fact_2 { n ≤ places }
+    requires enough { Enough mem.now }
+    requires n_in_range { n ≤ places }
     ensures { result ≡ length (occupied (state_of mem.now).capability n 0) }
 {
     let mut total = 0;
@@ -65,8 +65,8 @@ fn count(mem: &[u32], n: u32) -> u32
 
 // The bytes of an image with so many turns and entries.
 fn size_for(turns: u32, entries: u32) -> u32
-    requires fact_1 { turns ≤ turns_most }
-    requires fact_2 { entries ≤ entries_most }
+    requires turns_in_range { turns ≤ turns_most }
+    requires entries_in_range { entries ≤ entries_most }
     ensures { result ≡ length_for turns entries }
 {
     HEADER + (turns + 3) / 4 * 4 + ENTRY * entries
@@ -74,9 +74,9 @@ fn size_for(turns: u32, entries: u32) -> u32
 
 // The domains of the first n turns of the table, from byte i on.
 fn table(mem: &[u32], image: &mut [u8], i: usize, n: u32) -> usize
-    requires fact_1 { Enough mem.now }
-    requires fact_2 { n ≡ length (state_of mem.now).turns }
-    requires fact_3 { i + n ≤ length image.old }
+    requires enough { Enough mem.now }
+    requires n_is { n ≡ length (state_of mem.now).turns }
+    requires image_long_enough { i + n ≤ length image.old }
     ensures { Laid image.old i (state_of mem.now).turns result image.new }
 {
     let mut at = i;
@@ -90,9 +90,9 @@ fn table(mem: &[u32], image: &mut [u8], i: usize, n: u32) -> usize
 
 // The entry of place p at byte i, where it holds a capability.
 fn entry_of(mem: &[u32], image: &mut [u8], i: usize, p: u32) -> usize
-    requires fact_1 { Enough mem.now }
-    requires fact_2 { p < places }
-    requires fact_3 { i + entry_bytes * length (occupied (state_of mem.now).capability 1 p) ≤ length image.old }
+    requires enough { Enough mem.now }
+    requires p_in_range { p < places }
+    requires image_long_enough { i + entry_bytes * length (occupied (state_of mem.now).capability 1 p) ≤ length image.old }
     ensures { Laid image.old i (entries_for (state_of mem.now).capability (occupied (state_of mem.now).capability 1 p)) result image.new }
 {
     let seen = layout::see(mem, p, 0);
@@ -105,9 +105,9 @@ fn entry_of(mem: &[u32], image: &mut [u8], i: usize, p: u32) -> usize
 
 // The entries of the first n places, from byte i on.
 fn entries(mem: &[u32], image: &mut [u8], i: usize, n: u32) -> usize
-    requires fact_1 { Enough mem.now }
-    requires fact_2 { n ≤ places }
-    requires fact_3 { i + entry_bytes * length (occupied (state_of mem.now).capability n 0) ≤ length image.old }
+    requires enough { Enough mem.now }
+    requires n_in_range { n ≤ places }
+    requires image_long_enough { i + entry_bytes * length (occupied (state_of mem.now).capability n 0) ≤ length image.old }
     ensures { Laid image.old i (entries_for (state_of mem.now).capability (occupied (state_of mem.now).capability n 0)) result image.new }
 {
     let mut at = i;
@@ -121,8 +121,8 @@ fn entries(mem: &[u32], image: &mut [u8], i: usize, n: u32) -> usize
 
 // The whole image, which has n entries, into a buffer that is long enough.
 fn fill(mem: &[u32], image: &mut [u8], n: u32) -> usize
-    requires fact_1 { Enough mem.now }
-    requires fact_2 { Ready (state_of mem.now) n (length image.old) }
+    requires enough { Enough mem.now }
+    requires ready { Ready (state_of mem.now) n (length image.old) }
     ensures { Laid image.old 0 (bytes_for (state_of mem.now)) result image.new }
 {
     let h = layout::head_of(mem);

@@ -1,0 +1,25 @@
+-- Answers for `flow::hold_all`. Assumes nothing.
+use native.Mathlib.Omega.{arith}
+use mathlib.Core.Path.{ap}
+use Prim.Native.Nat.{◌-◌, ◌*◌, ◌<◌}
+use lib.ListN.{length}
+use Rattle.flow.proofs.Answers.{filled_none, filled_more, filled_end, rows_quotient, rows-rest}
+use borrow.Author.Rules.{rules}
+use Rattle.flow.proofs.hold_all.Goals as goal
+
+pub overflow_mul-size : goal.overflow_mul-size
+overflow_mul-size c = omega (arith, ap (λ k. k * c.args.n) c.domains.ensures.0)
+
+pub loop-x-init : goal.loop-x-init
+loop-x-init c = (cc, search rules, filled_none _)
+
+pub held-t-requires : goal.held-t-requires
+held-t-requires c = record { accepted = search rules; noted = search rules; reach = search rules; d_in_range = search (rules, rows_quotient); i_in_range = search (rules, rows-rest) }
+
+pub loop-x-preserved : goal.loop-x-preserved
+loop-x-preserved c = let inside : c.before.before.loop.x < length c.before.before.loop.out =
+    omega arith in
+    (search rules, search rules, filled_more _ inside c.loop-x.invariant.2 c.held-t.ensures)
+
+pub returns : goal.returns
+returns c = search (rules, filled_end)

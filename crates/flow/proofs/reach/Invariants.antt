@@ -1,0 +1,10 @@
+-- `flow::reach`'s loop. Assumes nothing.
+use Prim.Native.Nat.{◌-◌, ◌*◌, ◌≤◌}
+use Rattle.flow.proofs.Reaching.{Passing}
+use Rattle.flow.proofs.reach.Given as goal
+
+abbrev pub invariant-loop-before : goal.invariant-loop-before
+invariant-loop-before l = (l.after ≤ 4294967295 * 16) × Passing l.cells l.before l.after l.rows
+
+abbrev pub decreases-loop-before : goal.decreases-loop-before
+decreases-loop-before l = 4294967295 * 16 - l.before

@@ -1,0 +1,7 @@
+-- Answers for `image::byte`. Assumes nothing.
+use mathlib.Core.Path.{refl}
+use native.Mathlib.Omega.{arith}
+use Rattle.image.proofs.byte.Goals as goal
+
+pub returns : goal.returns
+returns c = (refl, omega (arith, c.shared_slice_known-1.given c.args.i))

@@ -1,0 +1,19 @@
+-- Answers for `look::any_slot`. Assumes nothing.
+use mathlib.Core.Path.{refl}
+use Rattle.look.proofs.Checks.{checks, never}
+use Rattle.rules.specs.Turn.{any_slot_refusal}
+use Rattle.look.specs.Looks.{seen}
+use Rattle.look.proofs.Visits.{seen_no}
+use Rattle.look.proofs.any_slot.Goals as goal
+
+pub returns-then-x-ge-SLOTS : goal.returns-then-x-ge-SLOTS
+unfolding any_slot_refusal
+returns-then-x-ge-SLOTS c = record { refusal = search checks; capability = never 2 refl; slot = search checks; visits = search seen_no }
+
+pub returns-then-c-eq0 : goal.returns-then-c-eq0
+unfolding any_slot_refusal seen
+returns-then-c-eq0 c = search checks
+
+pub returns : goal.returns
+unfolding any_slot_refusal seen
+returns c = search checks
