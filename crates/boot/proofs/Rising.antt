@@ -6,7 +6,6 @@ use Prim.Native.Nat.{ℕ, zero, suc, ◌+◌, ◌*◌, ◌<◌}
 use native.Mathlib.Omega.{arith}
 use lib.Dec.{eqb, ltb}
 use borrow.Author.Tests.{ltb-true, eqb-true}
-use Rattle.rules.specs.State.{nothing}
 use Rattle.rules.specs.Turn.{set}
 use Rattle.rules.specs.Image.{Entry, entry_bytes, entry_at, entries_from, place_of, capability_given, given, rising_from, rising}
 use Rattle.rules.proofs.Laws.{both}

@@ -1,6 +1,8 @@
 // Reading a boot image into memory, document 01, section 5. The bytes are only read, first for a refusal and then, once accepted, from
 // the header to the last entry, each entry fetched once. Memory is written only for an accepted image that it is long enough for:
 // cleared, then the head, the table of turns, and a capability for each entry. Numbers of two bytes have the high byte first.
+#![tactic(auto)]
+
 ghost use Rattle.std.specs.Prelude.{◌≡◌, ◌+◌, ◌*◌, ◌≤◌, ◌<◌, length};
 ghost use Rattle.rules.specs.Image.{two as two_at, header_bytes, entry_bytes, size_d, size_t, size_c, size_f, entries_at, source_of, capability_given, refusal_of};
 ghost use Rattle.layout.specs.Layout.{frames_at, words_for};

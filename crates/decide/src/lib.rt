@@ -1,5 +1,7 @@
 // The checks of an operation: they read memory and give an effect and an answer. Each function's decision is the one of the written
 // rules, on any memory that is long enough for the state that it claims to hold.
+#![tactic(auto)]
+
 mod plain;
 
 ghost use Rattle.std.specs.Prelude.{◌≡◌, ◌≤◌, ◌<◌};

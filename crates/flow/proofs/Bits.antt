@@ -6,7 +6,7 @@ use native.Mathlib.Nat.{div-eq_of_lt, div-one}
 use native.Mathlib.Omega.{arith}
 use lib.Arith.{bin_ind}
 use lib.Dec.{ltb}
-use lib.Pow.{shr-shr, pow-lt, pow-add}
+use lib.Pow.{shr-shr, pow-lt}
 use lib.Bits.{bit_and, bit_or, and_step, or_step, and_shr, or_shr, or_add_and, and_le_r, and_zero_l, shifted_half, shifted_even}
 use borrow.Author.Tests.{ltb-true, ltb-false}
 use Rattle.rules.proofs.Laws.{decided_by}

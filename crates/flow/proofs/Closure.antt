@@ -1,22 +1,20 @@
 -- The laws of direct flow and its closure over rows of masks. Assumes nothing.
 use mathlib.Core.Path.{◌≡◌, refl, sym, ap, ◌∙◌, subst}
-use mathlib.Core.Bool.{Bool, true, false, ◌&&◌}
 use mathlib.Core.List.{List}
 use mathlib.Core.Logic.{◌⊎◌, inl, inr, ⊎_elim}
-use Prim.Native.Nat.{ℕ, zero, suc, ◌+◌, ◌*◌, ◌^◌, ◌≤◌, ◌<◌}
+use Prim.Native.Nat.{ℕ, ◌+◌, ◌*◌, ◌^◌, ◌≤◌, ◌<◌}
 use native.Mathlib.Omega.{arith}
 use lib.Bits.{bit_or}
-use lib.Dec.{eqb}
-use lib.ListN.{length, get_or}
+use lib.ListN.{length}
 use borrow.Author.Tests.{ne_eqb}
 use Rattle.rules.specs.Sizes.{domains_most}
-use Rattle.rules.specs.Image.{size_c, sourceless, no_domain}
-use Rattle.rules.proofs.Laws.{not_both, decided_by}
+use Rattle.rules.specs.Image.{sourceless, no_domain}
+use Rattle.rules.proofs.Laws.{not_both}
 use Rattle.rules.proofs.Places.{same?}
 use Rattle.image.specs.declared.Fields.{Fields}
-use Rattle.flow.specs.Masks.{In, Meets, row, Meeting, United, Spread}
-use Rattle.flow.specs.Cells.{objects_all, reading, writing, entry_numbered, Listed}
-use Rattle.flow.specs.Edges.{Uses, Users, Link, frame, mailbox, bell, Source, Edge, Added, Joined, Chain, link, on, Closing}
+use Rattle.flow.specs.Masks.{In, row, Meeting, United, Spread}
+use Rattle.flow.specs.Cells.{reading, writing, entry_numbered, Listed}
+use Rattle.flow.specs.Edges.{Uses, Users, Link, frame, mailbox, bell, Source, Edge, Added, Joined, link, on, Closing}
 use Rattle.flow.proofs.Bits.{in_or, or_left, or_right, in_one, one_in}
 use Rattle.flow.proofs.Rows.{spread_was, spread-stays, spread_new}
 use Rattle.flow.proofs.Reaching.{in_low}

@@ -1,29 +1,28 @@
 -- The entries of an image that is not refused: their number and ranges, and the cells that have them. Assumes nothing.
 use mathlib.Core.Path.{◌≡◌, refl, sym, ap, ◌∙◌, subst}
-use mathlib.Core.Bool.{Bool, true, false, cond, ◌&&◌, false≢true}
+use mathlib.Core.Bool.{Bool, true, false, cond, ◌&&◌}
 use mathlib.Core.List.Memᴰ
-use mathlib.Core.List.{List, [], ◌∷◌, Memᴰ}
-use mathlib.Core.Logic.{◌⊎◌, inl, inr, ⊎_elim}
-use Prim.Native.Nat.{ℕ, zero, suc, ◌+◌, ◌*◌, ◌/◌, ◌%◌, ◌^◌, ◌≤◌, ◌<◌}
+use mathlib.Core.List.{List, Memᴰ}
+use mathlib.Core.Logic.{⊎_elim}
+use Prim.Native.Nat.{ℕ, zero, suc, ◌+◌, ◌*◌, ◌^◌, ◌≤◌, ◌<◌}
 use native.Mathlib.Omega.{arith}
-use native.Mathlib.Numerals.{add-one}
-use lib.Dec.{eqb, ltb}
+use lib.Dec.{eqb}
 use lib.ListN.{length, get_or, set, length-set, replicate, length-replicate}
 use lib.Seq.{get_or-set_same, get_or-set_other}
 use lib.Bits.{bit_or}
-use borrow.Author.Tests.{eqb-true, eqb-false, eq-eqb, ne_eqb}
-use Rattle.rules.specs.Sizes.{domains_most, frames_most, mailboxes, bells, entries_most}
+use borrow.Author.Tests.{eqb-true, eq-eqb, ne_eqb}
+use Rattle.rules.specs.Sizes.{frames_most, mailboxes, bells}
 use Rattle.rules.specs.State.{FRAME, MAILBOX, BELL, objects}
-use Rattle.rules.specs.Image.{Entry, header_bytes, entry_bytes, no_domain, size_d, size_t, size_c, size_f, padded, entries_at, length_for, entry_at, entries_from, image_of, sourceless, right_source, defines, all, some, refusal_of_form, refusal_of}
-use Rattle.rules.specs.Flow.{Triple, triple_of}
-use Rattle.rules.proofs.Laws.{both, either, decided_by, passes, not_both}
+use Rattle.rules.specs.Image.{Entry, entry_bytes, no_domain, size_d, size_t, size_c, size_f, padded, entries_at, length_for, entry_at, entries_from, image_of, sourceless, right_source, defines, refusal_of}
+use Rattle.rules.specs.Flow.{triple_of}
+use Rattle.rules.proofs.Laws.{both, either, passes, not_both}
 use Rattle.rules.proofs.Given.{FormRight, form-right, EntryRight, all_at, some_at}
 use Rattle.rules.proofs.Places.{same?}
 use Rattle.image.specs.Said.{said, Fetched}
 use Rattle.image.specs.declared.Fields.{Fields}
-use Rattle.flow.specs.Masks.{In, row}
-use Rattle.flow.specs.Cells.{number_of, objects_all, rights_all, cells_all, cell_of, entry_numbered, Accepted, Listed, Gives, Noted}
-use Rattle.flow.proofs.Bits.{below?, in_or, or_left, or_right, in_none, in_one, one_in}
+use Rattle.flow.specs.Masks.{In}
+use Rattle.flow.specs.Cells.{number_of, objects_all, cells_all, cell_of, entry_numbered, Accepted, Listed, Gives, Noted}
+use Rattle.flow.proofs.Bits.{in_or, or_left, or_right, in_none, in_one, one_in}
 
 -- ---- what is not refused
 

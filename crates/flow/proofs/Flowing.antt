@@ -1,15 +1,14 @@
 -- What the rows of flows say in the rules' words: they have exactly what may flow where. Assumes nothing.
 use mathlib.Core.Path.{◌≡◌, refl, sym, ap, ◌∙◌, subst}
-use mathlib.Core.Bool.{Bool, true, false}
-use mathlib.Core.List.{List, Memᴰ}
+use mathlib.Core.List.{List}
 use mathlib.Core.Logic.{◌⊎◌, inl, inr, ⊎_elim}
-use Prim.Native.Nat.{ℕ, zero, suc, ◌+◌, ◌-◌, ◌*◌, ◌^◌, ◌≤◌, ◌<◌}
+use Prim.Native.Nat.{ℕ, ◌-◌, ◌≤◌, ◌<◌}
 use native.Mathlib.Omega.{arith}
-use lib.ListN.{length, get_or}
+use lib.ListN.{length}
 use Rattle.rules.specs.Sizes.{domains_most}
-use Rattle.rules.specs.State.{FRAME, MAILBOX, BELL, READ, WRITE, within}
-use Rattle.rules.specs.Image.{Entry, Image, size_d, size_c, image_of, sourceless}
-use Rattle.rules.specs.Flow.{Triple, triple_of, For, CouldHold, Could, User, Case, frame, ringing, hearing, mailbox, derivation, Direct, Flow, itself, direct, onward}
+use Rattle.rules.specs.State.{FRAME, MAILBOX, BELL, READ, WRITE}
+use Rattle.rules.specs.Image.{Image, size_d, size_c, image_of, sourceless}
+use Rattle.rules.specs.Flow.{Could, User, Case, frame, ringing, hearing, mailbox, derivation, Flow, itself, direct, onward}
 use Rattle.rules.proofs.Places.{same?}
 use Rattle.flow.specs.Masks.{In, row, Themselves}
 use Rattle.flow.specs.Cells.{number_of, mailbox_first, bell_first, objects_all, entry_numbered, Accepted, Noted, Reach, reading, writing}

@@ -2,24 +2,23 @@
 -- Assumes nothing.
 use mathlib.Core.Path.{◌≡◌, refl, sym, ap, ◌∙◌, subst}
 use mathlib.Core.Bool.{Bool, true, false, cond}
-use mathlib.Core.List.{List, Memᴰ}
-use mathlib.Core.Logic.{◌⊎◌, inl, inr, ⊎_elim}
-use Prim.Native.Nat.{ℕ, zero, suc, ◌+◌, ◌*◌, ◌/◌, ◌%◌, ◌^◌, ◌≤◌, ◌<◌}
+use mathlib.Core.List.{List}
+use mathlib.Core.Logic.{◌⊎◌, inl, inr}
+use Prim.Native.Nat.{ℕ, ◌+◌, ◌*◌, ◌/◌, ◌%◌, ◌^◌, ◌≤◌, ◌<◌}
 use native.Mathlib.Omega.{arith}
-use lib.Dec.{eqb, ltb}
-use lib.ListN.{length, get_or}
-use lib.Bits.{bit_and}
-use borrow.Author.Tests.{eqb-true, eqb-false, eq-eqb, ne_eqb}
-use Rattle.rules.specs.Sizes.{domains_most, frames_most, mailboxes, bells}
+use lib.Dec.{eqb}
+use lib.ListN.{get_or}
+use borrow.Author.Tests.{eqb-true, eq-eqb, ne_eqb}
+use Rattle.rules.specs.Sizes.{domains_most, frames_most, mailboxes}
 use Rattle.rules.specs.State.{FRAME, MAILBOX, BELL, READ, WRITE, GRANT, within, objects}
-use Rattle.rules.specs.Image.{Entry, Image, size_d, size_c, size_f, image_of, all_below}
+use Rattle.rules.specs.Image.{size_d, size_c, size_f, image_of, all_below}
 use Rattle.rules.specs.Flow.{Triple, triple_of, For, CouldHold, image, passed, Could}
-use Rattle.rules.proofs.Laws.{not_both, decided_by}
-use Rattle.rules.proofs.Given.{FormRight, form-right, EntryRight}
+use Rattle.rules.proofs.Laws.{not_both}
+use Rattle.rules.proofs.Given.{EntryRight}
 use Rattle.rules.proofs.Certificate.{below_at}
 use Rattle.rules.proofs.Places.{same?}
-use Rattle.flow.specs.Masks.{In, Meets, row, OneOf}
-use Rattle.flow.specs.Cells.{number_of, objects_all, rights_all, cells_all, cell_of, mailbox_first, entry_numbered, Accepted, Gives, Noted, reading, writing, granting, Has, Passes, own, on, Reach}
+use Rattle.flow.specs.Masks.{In, Meets, row}
+use Rattle.flow.specs.Cells.{number_of, rights_all, cell_of, mailbox_first, entry_numbered, Accepted, Noted, reading, writing, granting, Has, Passes, own, on, Reach}
 use Rattle.flow.specs.Edges.{Uses}
 use Rattle.flow.proofs.Entries.{entry-member, member-entry, right_at, frames-low, number-frame, number-mailbox, number-bell}
 

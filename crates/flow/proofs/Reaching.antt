@@ -1,17 +1,17 @@
 -- Rule 2 of document 03 over cells: how passing on over one mailbox, over all of them, and until nothing is added changes the rows, and that
 -- at the end they have exactly what is passed on. Assumes nothing.
-use mathlib.Core.Path.{◌≡◌, refl, sym, ap, ◌∙◌, subst}
+use mathlib.Core.Path.{◌≡◌, refl, sym, ◌∙◌, subst}
 use mathlib.Core.List.{List}
-use mathlib.Core.Logic.{◌⊎◌, inl, inr, ⊎_elim}
-use Prim.Native.Nat.{ℕ, zero, suc, ◌+◌, ◌*◌, ◌^◌, ◌≤◌, ◌<◌}
+use mathlib.Core.Logic.{⊎_elim}
+use Prim.Native.Nat.{ℕ, zero, suc, ◌+◌, ◌*◌, ◌≤◌, ◌<◌}
 use native.Mathlib.Nat.{zero-add}
 use native.Mathlib.Omega.{arith}
-use lib.ListN.{length, get_or, get_or-eq_default}
+use lib.ListN.{length, get_or-eq_default}
 use lib.Seq.{ext_get_or}
 use Rattle.rules.specs.Sizes.{domains_most, mailboxes}
 use Rattle.rules.proofs.Places.{same?}
-use Rattle.flow.specs.Masks.{In, Meets, row, Meeting, OneOf, United, Spread, Themselves, sums}
-use Rattle.flow.specs.Cells.{mailbox_first, granting, reading, Has, Passes, own, on, Settled, total, Passed, Reach}
+use Rattle.flow.specs.Masks.{In, row, Meeting, OneOf, United, Spread, Themselves, sums}
+use Rattle.flow.specs.Cells.{granting, reading, Passes, own, on, Settled, total, Passed, Reach}
 use Rattle.flow.proofs.Bits.{below?, in_none, in_one, one_in}
 use Rattle.flow.proofs.Rows.{spread_was, spread-stays, spread_new, spread-most, sums-most, sums_same}
 

@@ -1,5 +1,5 @@
 -- Direct flow and its closure over rows of masks: domain b is in row a where there is a flow from a to b. Assumes nothing.
-use Rattle.std.specs.Prelude.{◌≡◌, false, List, ◌⊎◌, ℕ, ◌+◌, ◌≤◌, ◌<◌, length}
+use Rattle.std.specs.Prelude.{◌≡◌, false, List, ◌⊎◌, ℕ, ◌≤◌, ◌<◌, length}
 use Rattle.rules.specs.Sizes.{domains_most}
 use Rattle.rules.specs.Image.{size_d, image_of, sourceless}
 use Rattle.rules.specs.Flow.{Flow}

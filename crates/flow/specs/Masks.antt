@@ -1,6 +1,6 @@
 -- Masks of domains, and rows of them: which domains are in a mask, which rows meet one, what some of the rows have together, and what is
 -- added to rows. A number stands for a mask, its binary digit d for domain d; a list of numbers for rows. Assumes nothing.
-use Rattle.std.specs.Prelude.{◌≡◌, List, ℕ, zero, suc, ◌+◌, ◌/◌, ◌%◌, ◌^◌, ◌≤◌, ◌<◌, length, get_or}
+use Rattle.std.specs.Prelude.{◌≡◌, List, ℕ, zero, suc, ◌+◌, ◌/◌, ◌%◌, ◌^◌, ◌<◌, length, get_or}
 use Rattle.std.specs.Int.Bits.{bit_or}
 use Rattle.rules.specs.Sizes.{domains_most}
 

@@ -14,7 +14,7 @@ use Rattle.rules.specs.declared.Capability.{Capability}
 use Rattle.rules.specs.declared.Message.{Message}
 use Rattle.rules.specs.declared.Effect.TheVariants.{Take, Move}
 use Rattle.layout.specs.Layout.{size, cells, of_cells, state_of}
-use Rattle.look.specs.Looks.{Decides, Looks, refused_by, seen}
+use Rattle.look.specs.Looks.{Decides, Looks, refused_by}
 use Rattle.look.specs.declared.Decided.{Decided}
 use Rattle.look.specs.declared.Looked.{Looked}
 use Rattle.look.proofs.Checks.{checks, is_refused}

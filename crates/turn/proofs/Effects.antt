@@ -3,13 +3,12 @@
 use mathlib.Core.Path.{◌≡◌, refl, sym, ap, ◌∙◌, subst}
 use mathlib.Core.Bool.{Bool, true, false, cond}
 use mathlib.Core.List.{List}
-use Prim.Native.Nat.{ℕ, zero, suc, ◌+◌, ◌-◌, ◌*◌, ◌≤◌, ◌<◌}
+use Prim.Native.Nat.{ℕ, ◌+◌, ◌-◌, ◌*◌, ◌≤◌, ◌<◌}
 use native.Mathlib.Omega.{arith}
-use lib.Dec.{eqb}
 use lib.Bits.{bit_or}
-use Rattle.rules.specs.Sizes.{domains_most, slots, all_slots, places, mailboxes, bells, frame_words}
-use Rattle.rules.specs.State.{State, FRAME, MAILBOX, BELL, slot, nothing, no_message, whose, objects, Section4, Formed, Sound}
-use Rattle.rules.specs.Turn.{held, words, conclude, load, store, derived, derive, delete, revoke, ring, hear, copied, goes, send, moves, receive, look, Name, IDLE, LOAD, STORE, DERIVE, DELETE, REVOKE, RING, HEAR, SEND, RECEIVE, LOOK, unknown, named, decided, decide, apply}
+use Rattle.rules.specs.Sizes.{domains_most, all_slots, places, mailboxes, bells, frame_words}
+use Rattle.rules.specs.State.{State, slot, nothing, no_message, objects, Section4, Formed, Sound}
+use Rattle.rules.specs.Turn.{held, load, store, derive, delete, revoke, ring, hear, send, moves, receive, look, Name, IDLE, LOAD, STORE, DERIVE, DELETE, REVOKE, RING, HEAR, SEND, RECEIVE, LOOK, unknown, decided, apply}
 use Rattle.rules.specs.declared.Capability.{Capability}
 use Rattle.rules.specs.declared.Message.{Message}
 use Rattle.rules.specs.declared.Operation.{Operation}
@@ -23,7 +22,7 @@ use Rattle.layout.proofs.Stores.{stored-nothing, stored_then}
 use Rattle.tree.specs.Tree.{places_of, dropping, pruning, drop_visits, prune_visits}
 use Rattle.tree.specs.Sweeps.{PruneVisits}
 use Rattle.turn.specs.Turned.{Named, Fitting, Applied}
-use Rattle.turn.specs.Visits.{Visited, cost, allowed}
+use Rattle.turn.specs.Visits.{cost, allowed}
 
 -- the places that a licensed effect names are slots of its domain
 pub licensed_named : {s : State} {d : ℕ} {e : Effect} → d < domains_most → Licence s d e → Named e

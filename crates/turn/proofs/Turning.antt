@@ -2,7 +2,7 @@
 use mathlib.Core.Path.{◌≡◌, refl, sym, ap, ◌∙◌, subst}
 use mathlib.Core.Bool.{Bool, true, false, cond}
 use mathlib.Core.List.{List}
-use Prim.Native.Nat.{ℕ, zero, suc, ◌+◌, ◌*◌, ◌%◌, ◌≤◌, ◌<◌}
+use Prim.Native.Nat.{ℕ, ◌+◌, ◌%◌, ◌≤◌, ◌<◌}
 use native.Mathlib.Omega.{arith}
 use native.Mathlib.Nat.{mod-lt, mod-eq_of_lt}
 use lib.Dec.{leb}
@@ -10,7 +10,7 @@ use lib.ListN.{length, get_or}
 use borrow.Author.Tests.{leb-true, leb-false}
 use Rattle.rules.specs.Sizes.{domains_most}
 use Rattle.rules.specs.State.{State, slot, whose, Section4, Formed}
-use Rattle.rules.specs.Turn.{held, moves, words, refusal, conclude, load, store, derive, delete, revoke, ring, hear, send, receive, look, Name, IDLE, LOAD, STORE, DERIVE, DELETE, REVOKE, RING, HEAR, SEND, RECEIVE, LOOK, unknown, named, decided, decide, apply, advance, next, answer}
+use Rattle.rules.specs.Turn.{held, moves, refusal, load, store, derive, delete, revoke, ring, hear, send, receive, look, Name, IDLE, LOAD, STORE, DERIVE, DELETE, REVOKE, RING, HEAR, SEND, RECEIVE, LOOK, unknown, named, decided, decide, apply, advance, next, answer}
 use Rattle.rules.specs.declared.Operation.{Operation}
 use Rattle.rules.specs.declared.Answer.{Answer}
 use Rattle.rules.specs.declared.Effect.{Effect}
@@ -18,7 +18,7 @@ use Rattle.rules.specs.declared.Effect.TheVariants.{Take, Move}
 use Rattle.rules.specs.declared.Decision.{Decision}
 use Rattle.rules.proofs.Laws.{concluded, concluded_both}
 use Rattle.rules.proofs.Fixed.{apply_fixed}
-use Rattle.rules.proofs.Licence.{Licence, licensed}
+use Rattle.rules.proofs.Licence.{licensed}
 use Rattle.rules.proofs.Formed.{whose-low}
 use Rattle.rules.proofs.Reached.{sound_next}
 use Rattle.layout.specs.Layout.{state_of, position_at, need, Enough}

@@ -1,4 +1,6 @@
 // A turn: the domain whose turn it is performs one operation on the state in memory, and the position moves on. Public: turn, whose, words.
+#![tactic(auto)]
+
 mod effect;
 
 ghost use Rattle.std.specs.Prelude.{◌≡◌, ◌≤◌};

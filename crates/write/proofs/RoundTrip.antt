@@ -10,7 +10,7 @@ use lib.Dec.{ltb}
 use lib.ListN.{length, take}
 use borrow.Author.Tests.{ltb-true, ltb-false}
 use Rattle.rules.specs.State.{State}
-use Rattle.rules.specs.Image.{size_f, image_of, boot, refusal_of, accepted, refused, read_as, read, bytes_for, writable, image, unwritable, write}
+use Rattle.rules.specs.Image.{size_f, image_of, boot, refusal_of, accepted, read_as, read, bytes_for, writable, image, unwritable, write}
 use Rattle.rules.specs.RoundTrip.{Proper}
 use Rattle.rules.proofs.Laws.{decided_by}
 use Rattle.rules.proofs.Places.{same?}

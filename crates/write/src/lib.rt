@@ -2,6 +2,8 @@
 // first the state is looked through for refusal 27, then the entries are counted for refusal 28, then the bytes are written one behind the
 // other, from the header to the last entry. On any memory each function does exactly what the rules say of the state that stands there; a
 // number that no byte holds, which good memory does not have, is written modulo 256.
+#![tactic(auto)]
+
 mod blank;
 mod put;
 

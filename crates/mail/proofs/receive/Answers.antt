@@ -15,25 +15,20 @@ pub returns-then-t-gt-SLOTS : goal.returns-then-t-gt-SLOTS
 returns-then-t-gt-SLOTS c = receive-refused c.slot_for-k.ensures _ refl c.refused-then-t-gt-SLOTS.ensures refl (search checks)
 
 pub returns-then-g-eq0 : goal.returns-then-g-eq0
-returns-then-g-eq0 c = let k =
-    c.before.before.before.before.before in
-    let h = k.before.before.slot-for.ensures.capability k.if1.false in
-    receive-refused k.before.before.slot-for.ensures _ refl c.refused-then-g-eq0.ensures refl (search checks)
+returns-then-g-eq0 c =
+    let h = c.slot_for-k.ensures.capability c.if-k-ne0.false in
+    receive-refused c.slot_for-k.ensures _ refl c.refused-then-g-eq0.ensures refl (search checks)
 
 pub take-y-requires : goal.take-y-requires
-take-y-requires c = let k =
-    c.before.before.before.before in
-    let s = k.before.before.before.before in
-    let v = k.before.before.slot-for.ensures.visits in
-    let l = seen_most s.args.x in
-    (s.requires.0, (s.requires.1, (full-low _ _ _ c.if-g-eq0.false c.message-g.ensures, omega arith)))
+take-y-requires c =
+    let l = seen_most c.args.x in
+    record { enough = c.requires.enough; d_in_range = c.requires.d_in_range; m_in_range = full-low _ _ _ c.if-g-eq0.false c.message-g.ensures; visits_left = omega arith }
 
 pub returns : goal.returns
 unfolding receive
-returns c = let k =
-    c.before.before.before.before.before in
-    let h = k.before.before.slot-for.ensures.capability k.if1.false in
-    let z = looked_up _ _ _ _ _ k.before.before.slot-for.ensures k.if1.false in
+returns c =
+    let h = c.slot_for-k.ensures.capability c.if-k-ne0.false in
+    let z = looked_up _ _ _ _ _ c.slot_for-k.ensures c.if-k-ne0.false in
     is_done _ _ _ (search checks)
     (rw (← h, ← c.message-g.ensures, ← c.take-y.ensures.effect, ← c.take-y.ensures.flag))
-    (let v = receive-taken k.before.before.slot-for.ensures refl k.if1.false (search checks) c.take-y.ensures in omega arith)
+    (let v = receive-taken c.slot_for-k.ensures refl c.if-k-ne0.false (search checks) c.take-y.ensures in omega arith)

@@ -18,29 +18,24 @@ along-a-requires c = record { enough = search rules; d_in_range = search rules; 
 
 pub returns-then-a-ne0 : goal.returns-then-a-ne0
 unfolding send
-returns-then-a-ne0 c = let k =
-    c.before.before.before.before.before in
+returns-then-a-ne0 c =
     is_refused _ _ _ c.refused-then-a-ne0.ensures (search checks)
-    (stands _ _ _ _ (search checks) (carried k.before.before.slot-for.ensures k.if1.false c.along-a.ensures))
+    (stands _ _ _ _ (search checks) (carried c.slot_for-k.ensures c.if-k-ne0.false c.along-a.ensures))
     (search send-seen)
 
 pub returns-then-message-ne0 : goal.returns-then-message-ne0
 unfolding send
-returns-then-message-ne0 c = let l =
-    c.before.before.before.before in
-    let k = l.before.before.before.before in
-    let h = k.before.before.slot-for.ensures.capability k.if1.false in
-    let z = carried k.before.before.slot-for.ensures k.if1.false l.before.before.along.ensures in
-    is_refused _ _ _ c.refused-then-message-ne0.ensures refl (refuses _ _ _ (sym l.if2.false ∙ z) (search checks)) (search send-seen)
+returns-then-message-ne0 c =
+    let h = c.slot_for-k.ensures.capability c.if-k-ne0.false in
+    let z = carried c.slot_for-k.ensures c.if-k-ne0.false c.along-a.ensures in
+    is_refused _ _ _ c.refused-then-message-ne0.ensures refl (refuses _ _ _ (sym c.if-a-ne0.false ∙ z) (search checks)) (search send-seen)
 
 pub returns : goal.returns
 unfolding send
-returns c = let l =
-    c.before.before.before.before.before.before in
-    let k = l.before.before.before.before in
-    let h = k.before.before.slot-for.ensures.capability k.if1.false in
-    let i = l.before.before.along.ensures.capability l.if2.false in
-    let z = carried k.before.before.slot-for.ensures k.if1.false l.before.before.along.ensures in
-    is_done _ _ _ (goes_on _ _ _ _ (sym l.if2.false ∙ z) (search checks))
+returns c =
+    let h = c.slot_for-k.ensures.capability c.if-k-ne0.false in
+    let i = c.along-a.ensures.capability c.if-a-ne0.false in
+    let z = carried c.slot_for-k.ensures c.if-k-ne0.false c.along-a.ensures in
+    is_done _ _ _ (goes_on _ _ _ _ (sym c.if-a-ne0.false ∙ z) (search checks))
     (rw (← h, ← i, ← c.written.ensures) c.done.ensures.0)
     (c.done.ensures.1 ∙ search send-seen)

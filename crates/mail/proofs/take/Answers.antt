@@ -10,19 +10,13 @@ pub returns-then-under-eq0 : goal.returns-then-under-eq0
 returns-then-under-eq0 c = takes_still _ _ _ _ (search stays_none) c.taking-then-under-eq0.ensures (search taking_none)
 
 pub returns-then-to-ne0 : goal.returns-then-to-ne0
-returns-then-to-ne0 c = let to =
-    c.before.before.before in
-    let e = to.before in
-    let under = e.before.before in
-    takes_still _ _ _ _ (stays-full _ _ _ _ _ (λ z. omega (arith, c.before)) to.see2.ensures.0) c.taking-then-to-ne0.ensures
-    (taking_yes _ _ _ _ _ _ e.if2.false under.see.ensures.0 under.before.if1.false _ under.see.ensures.1 to.see2.ensures.1)
+returns-then-to-ne0 c =
+    takes_still _ _ _ _ (stays-full _ _ _ _ _ (λ z. omega arith) c.see-to.ensures.0) c.taking-then-to-ne0.ensures
+    (taking_yes _ _ _ _ _ _ c.if-under-eq0.false c.see-under.ensures.0 c.if-t-ge-SLOTS.false _ c.see-under.ensures.1 c.see-to.ensures.1)
 
 pub returns : goal.returns
-returns c = let to =
-    c.before.before.before in
-    let e = to.before in
-    let under = e.before.before in
+returns c =
     takes_moves _ _ _ _
-    (moves-there _ _ _ _ _ _ e.if2.false under.see.ensures.0 under.before.if1.false c.if-to-ne0.false to.see2.ensures.0)
+    (moves-there _ _ _ _ _ _ c.if-under-eq0.false c.see-under.ensures.0 c.if-t-ge-SLOTS.false c.if-to-ne0.false c.see-to.ensures.0)
     c.taking-2.ensures
-    (taking_yes _ _ _ _ _ _ e.if2.false under.see.ensures.0 under.before.if1.false _ under.see.ensures.1 to.see2.ensures.1)
+    (taking_yes _ _ _ _ _ _ c.if-under-eq0.false c.see-under.ensures.0 c.if-t-ge-SLOTS.false _ c.see-under.ensures.1 c.see-to.ensures.1)
