@@ -19,7 +19,7 @@ use Rattle.rules.specs.declared.Answer.{Answer}
 use Rattle.rules.specs.declared.Effect.{Effect}
 use Rattle.rules.specs.declared.Effect.TheVariants.{Store, Ring, Hush, Put, Post, Take, Move}
 use Rattle.rules.proofs.Laws.{passes}
-use Rattle.rules.proofs.Licence.{Has, Owns, Licence, nothing-done, stores, rings, hushes, puts, drops, prunes, posts, sends, takes, gets, has, owns}
+use Rattle.rules.proofs.Licence.{Has, Owns, Licence, nothing-done, stores, rings, hushes, puts, drops, prunes, posts, sends, takes, gets, any_slot_row, has, owns}
 use Rattle.rules.proofs.Places.{resourced}
 use Rattle.rules.proofs.View.{Alike, set_both, Some, Frame, Bell, Mailbox, Seen, own, mail, View, Tie, Able, stored, rung, mailed, placed, ours_slot, comes_same}
 
@@ -83,7 +83,7 @@ module _ (i : Image) (L : ℕ → Bool) (s t : State) (d : ℕ) (below : d < dom
 
   same_any : (x : ℕ) → Row (Has s d x) (any_slot_refusal s d x) (any_slot_refusal t d x)
   unfolding any_slot_refusal ◌then◌else◌
-  same_any x = record { same = same_where (λ g c. 0 then g else 2 then holds c else 3) x refl; known = has s d x }
+  same_any x = record { same = same_where any_slot_row x refl; known = has s d x }
 
   same_for : (x k r : ℕ) → Row (Owns s d x k r) (slot_for_refusal s d x k r) (slot_for_refusal t d x k r)
   unfolding slot_for_refusal

@@ -9,6 +9,7 @@ use Rattle.rules.specs.Sizes.{slots, frame_words, badge_most}
 use Rattle.rules.specs.State.{State, FRAME, MAILBOX, BELL, READ, WRITE, GRANT, within, slot, room, nothing, whose, Holds}
 use Rattle.rules.specs.Turn.{◌then◌else◌, held, holds, full, any_slot_refusal, slot_for_refusal, words, conclude, load, store, derived, derive, delete, revoke, ring, hear, copied, goes, send, moves, receive, look, Name, IDLE, LOAD, STORE, DERIVE, DELETE, REVOKE, RING, HEAR, SEND, RECEIVE, LOOK, unknown, named, decided, decide, apply, advance, next, answer}
 use Rattle.rules.specs.Authority.{RefusalLeaves}
+use Rattle.rules.specs.declared.Capability.{Capability}
 use Rattle.rules.specs.declared.Message.{Message}
 use Rattle.rules.specs.declared.Operation.{Operation}
 use Rattle.rules.specs.declared.Effect.{Effect}
@@ -48,6 +49,10 @@ pub data Licence (s : State) (d : ℕ) : Effect → Type 0 where
   takes : {x : ℕ} → Owns s d x MAILBOX READ → Licence s d (Take (held s d x).object)
   gets : {x t : ℕ} → Owns s d x MAILBOX READ → Holds s.capability (room (held s d x).object) → Free s d t
       → Licence s d (Move (held s d x).object (slot d t))
+
+-- the checks of any_slot_refusal, of whether x is a slot and what it holds
+abbrev pub any_slot_row : Bool → Capability → ℕ
+any_slot_row g c = 0 then g else 2 then holds c else 3
 
 module _ (s : State) (d : ℕ) where
   pub has : (x : ℕ) → any_slot_refusal s d x ≡ 0 → Has s d x
