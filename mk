@@ -38,35 +38,17 @@ fail() { # MESSAGE
 
 readable() { [ -r "$1" ] && [ ! -d "$1" ] || fail "cannot read $1"; }
 
-# A program is there, and no source is newer.
-current() { # NAME
-  [ -x "$here/target/bin/$1" ] &&
-    [ -z "$(find "$here/crates" "$here/crates.txt" -newer "$here/target/bin/$1" -type f \( -name '*.rt' -o -name '*.antt' -o -name crates.txt \) | head -n 1)" ]
-}
-
-# Builds those programs that are missing or older than a source, all in one go; the proofs' progress is shown on standard error.
+# Proves and builds those programs that are missing or older than a source.
 built() { # NAME..
-  missing=
-  for program in "$@"; do current "$program" || missing="$missing $program"; done
-  [ -n "$missing" ] || return 0
   command -v rt >/dev/null 2>&1 || fail "the Rattle kit's command rt is not on the PATH"
-  echo "mk: proving and building$missing; this takes some minutes the first time" >&2
-  begin=$(date +%s)
-  # shellcheck disable=SC2086 # names of programs, one word each
-  (cd "$here" && rt check $missing 2>&1) | while IFS= read -r line; do
-    case $line in
-      'rt: '*) echo "  [$(($(date +%s) - begin)) s] $line" >&2 ;;
-    esac
-  done
-  for program in $missing; do
-    [ -x "$here/target/bin/$program" ] || fail "$program could not be built: run rt check $program to see why"
-    touch "$here/target/bin/$program"
+  for program in "$@"; do
+    "$here/tools/build" "$program" || fail "$program could not be built: run rt check $program to see why"
   done
 }
 
 run() { "$here/tools/program" "$@"; }
 
-# A Rattle program has no exit status: what it says on standard error is what went wrong.
+# What a program says on standard error is what went wrong.
 checked() { # NAME [WORD..], standard input to standard output
   run "$@" 2>"$space/said"
   if [ -s "$space/said" ]; then

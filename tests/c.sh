@@ -1,11 +1,12 @@
 #!/usr/bin/env bash
 # Links the static library from C, as a firmware would: the header in C99 and C++, every vector through its functions, memory and images
 # of random words, and the program of docs/EMBEDDING.md. The kit's library is x86-64 code: on another processor the tests are built for
-# x86-64 too and run under the kit's emulator, with fewer random words.
+# x86-64 too and run under an emulator, with fewer random words.
 set -u
 cd "$(dirname "$0")/.." || exit 2
 . tests/cases.bash
 out=$(mktemp -d) || exit 2
+library=crates/meterkernel/out/libmeterkernel.a
 trap 'rm -rf "$out"' EXIT
 
 if [ "$(uname -m)" = x86_64 ]; then
@@ -13,19 +14,18 @@ if [ "$(uname -m)" = x86_64 ]; then
 else
   compiler=(x86_64-linux-gnu-gcc -static) symbols=x86_64-linux-gnu-nm turns=50000 images=100000
   command -v "${compiler[0]}" >/dev/null 2>&1 ||
-    apt-get -qq install -y gcc-x86-64-linux-gnu libc6-dev-amd64-cross >"$out/install" 2>&1 || cat "$out/install"
+    apt-get -qq install -y gcc-x86-64-linux-gnu libc6-dev-amd64-cross qemu-user >"$out/install" 2>&1 || cat "$out/install"
 fi
 
 build() { # NAME SOURCE..: strictly, as C99
   local name=$1
   shift
-  "${compiler[@]}" -std=c99 -Wall -Wextra -Wpedantic -Werror -O2 -Iinclude -Itests/c -o "$out/$name" "$@" target/staticlib/libmeterkernel.a
+  "${compiler[@]}" -std=c99 -Wall -Wextra -Wpedantic -Werror -O2 -Iinclude -Itests/c -o "$out/$name" "$@" "$library"
 }
 
-run() { # NAME WORD..: natively, or under the kit's emulator
-  local name=$1 emulator
+run() { # NAME WORD..: natively, or under the emulator
+  local name=$1 emulator=qemu-x86_64
   shift
-  emulator=$(kit)/bin/qemu-x86_64
   [ "$(uname -m)" != x86_64 ] || emulator=
   ${emulator:+"$emulator"} "$out/$name" "$@"
 }
@@ -37,11 +37,11 @@ fenced() { sed -n "/^\`\`\`$1\$/,/^\`\`\`\$/p" docs/EMBEDDING.md | sed '1d;$d'; 
 page_runs() { fenced c >"$out/page.c" && fenced text >"$out/page.expected" && build page "$out/page.c" && run page >"$out/page.out" && cmp "$out/page.out" "$out/page.expected"; }
 
 no_other_symbols() { # the library defines what the header names, and needs memcpy and memset alone
-  cmp -s <("$symbols" -g --defined-only target/staticlib/libmeterkernel.a | sed -n 's/.* T //p' | sort) <(grep -oE '\bmk_[a-z_]+\(' include/meterkernel.h | tr -d '(' | sort -u) &&
-    ! "$symbols" -u target/staticlib/libmeterkernel.a | sed -n 's/^ *U //p' | grep -vE '^(memcpy|memset|memmove)$'
+  cmp -s <("$symbols" -g --defined-only "$library" | sed -n 's/.* T //p' | sort) <(grep -oE '\bmk_[a-z_]+\(' include/meterkernel.h | tr -d '(' | sort -u) &&
+    ! "$symbols" -u "$library" | sed -n 's/^ *U //p' | grep -vE '^(memcpy|memset|memmove)$'
 }
 
-check "the static library" rt staticlib meterkernel >"$out/staticlib" || cat "$out/staticlib"
+check "the static library" rt lib meterkernel >"$out/staticlib" 2>&1 || cat "$out/staticlib"
 grep -E '^(not )?ok ' "$out/staticlib"
 check "its symbols are those of the header" no_other_symbols
 check "the header in C++" header_in_cxx

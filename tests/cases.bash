@@ -11,7 +11,4 @@ check() { # NAME COMMAND..: a case that passes where the command succeeds
   fi
 }
 
-# The kit's tools for this processor.
-kit() { echo "${RATTLE_HOME:-$(dirname "$(dirname "$(readlink -f "$(command -v rt)")")")}/on/$(uname -m)/toolchain"; }
-
-program() { tools/program "$@"; } # NAME [WORD..]: a program of target/bin
+program() { tools/program "$@"; } # NAME [WORD..]: a program that rt built

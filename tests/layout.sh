@@ -18,7 +18,7 @@ entries_ask_nothing() { # no function that C may call has a requires
 }
 state_is_small() { # beside the frames at most 6,500 words
   local words
-  words=$(sed -n 's/^framesAt = \([0-9]*\)$/\1/p' crates/layout/specs/Layout.antt)
+  words=$(sed -n 's/^frames_at = \([0-9]*\)$/\1/p' crates/layout/specs/Layout.antt)
   [ -n "$words" ] && [ "$words" -le 6500 ]
 }
 

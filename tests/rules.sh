@@ -29,7 +29,7 @@ each_statement_proved() {
   for file in $specs/Authority.antt $specs/History.antt $specs/Partition.antt $specs/RoundTrip.antt crates/write/specs/RoundTrip.antt; do
     for name in $(sed -nE 's/^abbrev pub ([A-Z][A-Za-z0-9]*) : Type 0$/\1/p' "$file"); do
       case $name in Program | Programs) continue ;; esac
-      grep -rqE "^ *pub [a-z0-9-]+ : $name\$" "${file%/specs/*}/proofs" || { echo "# $name has no proof"; missing=1; }
+      grep -rqE "^ *pub [a-z0-9_-]+ : $name\$" "${file%/specs/*}/proofs" || { echo "# $name has no proof"; missing=1; }
     done
   done
   return $missing
