@@ -9,11 +9,12 @@ ghost use Rattle.rules.specs.Turn.{advance};
 ghost use Rattle.layout.specs.Layout.{state_of, Headed, position_at, frames_at, need, Enough, visits_most, words_of};
 ghost use Rattle.layout.specs.Stored.{Stored, placed, handed, worded, belled, mailed, Placed, Elsewhere, Cleared, headed, turning};
 
-use rules::{Capability, Message};
+use rules::{Capability, MAILBOXES, Message, PLACES, TURNS_MOST};
 
-const PLACES: usize = 1088;
+// Where each region begins: a word for each place, for each mailbox, for each turn.
+const EACH_PLACE: usize = PLACES as usize;
 
-const BOXES: usize = 64;
+const EACH_BOX: usize = MAILBOXES as usize;
 
 const FRAME_COUNT: usize = 1;
 
@@ -23,31 +24,31 @@ const POSITION: usize = 3;
 
 const TURNS: usize = 4;
 
-const KIND: usize = TURNS + 64;
+const KIND: usize = TURNS + TURNS_MOST as usize;
 
-const RIGHTS: usize = KIND + PLACES;
+const RIGHTS: usize = KIND + EACH_PLACE;
 
-const OBJECT: usize = RIGHTS + PLACES;
+const OBJECT: usize = RIGHTS + EACH_PLACE;
 
-const BADGE: usize = OBJECT + PLACES;
+const BADGE: usize = OBJECT + EACH_PLACE;
 
-const SOURCE: usize = BADGE + PLACES;
+const SOURCE: usize = BADGE + EACH_PLACE;
 
-const BELLS: usize = SOURCE + PLACES;
+const BELLS: usize = SOURCE + EACH_PLACE;
 
-const FULL: usize = BELLS + 64;
+const FULL: usize = BELLS + rules::BELLS as usize;
 
-const FROM: usize = FULL + BOXES;
+const FROM: usize = FULL + EACH_BOX;
 
-const W0: usize = FROM + BOXES;
+const W0: usize = FROM + EACH_BOX;
 
-const W1: usize = W0 + BOXES;
+const W1: usize = W0 + EACH_BOX;
 
-const W2: usize = W1 + BOXES;
+const W2: usize = W1 + EACH_BOX;
 
-const W3: usize = W2 + BOXES;
+const W3: usize = W2 + EACH_BOX;
 
-const FRAMES: usize = W3 + BOXES;
+const FRAMES: usize = W3 + EACH_BOX;
 
 // What a place holds, and the visits so far.
 #[derive(Clone, Copy)]

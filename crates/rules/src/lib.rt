@@ -13,10 +13,15 @@ pub const ALL_SLOTS: u32 = DOMAINS_MOST * SLOTS;
 
 pub const MAILBOXES: u32 = 64;
 
+pub const BELLS: u32 = 64;
+
 // The slots of all domains and the mailboxes' rooms.
 pub const PLACES: u32 = ALL_SLOTS + MAILBOXES;
 
 pub const FRAME_WORDS: u32 = 256;
+
+// The turns in the table, at most.
+pub const TURNS_MOST: u32 = 64;
 
 pub const BADGE_MOST: u32 = 65535;
 
