@@ -40,9 +40,8 @@ readable() { [ -r "$1" ] && [ ! -d "$1" ] || fail "cannot read $1"; }
 
 # Proves and builds those programs that are missing or older than a source.
 built() { # NAME..
-  command -v rt >/dev/null 2>&1 || fail "the Rattle kit's command rt is not on the PATH"
   for program in "$@"; do
-    "$here/tools/build" "$program" || fail "$program could not be built: run rt check $program to see why"
+    "$here/tools/build" "$program" || fail "$program could not be built: rt check in crates/$program says why"
   done
 }
 

@@ -19,7 +19,7 @@ no_code_words() { ! believed | sed 's/--.*//' | grep -niE 'memory|offset|visit|l
 nothing_unproved() { ! grep -rnE '^ *axiom |(=|\()[[:space:]]*\?[A-Za-z0-9]*[[:space:]]*(\)|$)' crates --include='*.antt'; }
 each_crate_listed() {
   local all=0 d
-  for d in crates/*/; do grep -q "^$(basename "$d"):" crates.txt || { echo "# $d is not in crates.txt"; all=1; }; done
+  for d in crates/*/; do grep -q "^$(basename "$d")[ :]" crates.txt || { echo "# $d is not in crates.txt"; all=1; }; done
   return $all
 }
 
