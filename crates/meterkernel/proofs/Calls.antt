@@ -1,8 +1,8 @@
 -- A turn through the C interface: the words of an operation and of an answer, and what mk_turn comes to. Assumes nothing.
-use mathlib.Core.Path.{◌≡◌, refl, sym, ap, ◌∙◌, subst, subst₂}
+use mathlib.Core.Path.{◌≡◌, refl, sym, ◌∙◌, subst₂}
 use mathlib.Core.Bool.{Bool, true, false}
 use mathlib.Core.List.{List, [], ◌∷◌}
-use mathlib.Core.Logic.{◌⊎◌, inl, inr, ⊎_elim}
+use mathlib.Core.Logic.{inl, inr, ⊎_elim}
 use Prim.Native.Nat.{ℕ, zero, suc, ◌≤◌, ◌<◌}
 use native.Mathlib.Omega.{arith}
 use lib.Dec.{leb}
@@ -10,7 +10,7 @@ use lib.ListN.{length, get_or, set}
 use borrow.Author.Tests.{leb-true, leb-false}
 use Rattle.rules.specs.declared.Operation.{Operation}
 use Rattle.rules.specs.declared.Answer.{Answer}
-use Rattle.layout.specs.Layout.{need, Enough}
+use Rattle.layout.specs.Layout.{need}
 use Rattle.turn.specs.Turned.{Turned}
 use Rattle.meterkernel.specs.Entries.{operation_words, answer_words, operation_in, answer_in, TooShort, Told, TurnCalled}
 

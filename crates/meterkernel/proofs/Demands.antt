@@ -1,20 +1,17 @@
 -- The three demands. Assumes nothing.
 use mathlib.Core.Path.{◌≡◌, refl, sym, ap, ◌∙◌, subst}
 use mathlib.Core.List.{List}
-use mathlib.Core.Bool.{Bool, true, false}
+use mathlib.Core.Bool.{Bool}
 use mathlib.Core.Logic.{◌⊎◌, inl, inr, ⊎_elim, ◌↔◌}
-use Prim.Native.Nat.{ℕ, zero, suc, ◌≤◌, ◌<◌}
-use native.Mathlib.Omega.{arith}
+use Prim.Native.Nat.{ℕ, zero, suc, ◌≤◌}
 use lib.Dec.{leb}
 use lib.ListN.{length, get_or}
 use borrow.Author.Tests.{le-leb, lt-leb}
-use Rattle.rules.specs.State.{State, slot, whose, Holds, Derived}
-use Rattle.rules.specs.Turn.{◌then◌else◌, refusal, Name, DELETE, REVOKE, named, next, answer}
+use Rattle.rules.specs.State.{slot, whose, Derived}
+use Rattle.rules.specs.Turn.{◌then◌else◌, refusal}
 use Rattle.rules.specs.Image.{size_f, refusal_of}
 use Rattle.rules.specs.Authority.{Revoked, Deleted}
-use Rattle.rules.specs.History.{Ledger, Ancestor}
-use Rattle.rules.specs.declared.Operation.{Operation}
-use Rattle.rules.specs.declared.Answer.{Answer}
+use Rattle.rules.specs.History.{Ancestor}
 use Rattle.rules.proofs.Places.{same?}
 use Rattle.rules.proofs.Licence.{refusal_leaves}
 use Rattle.rules.proofs.Reached.{section4_always, formed_always, never_more, revoke_exactly, delete_keeps, reused_is_fresh, confinement}
@@ -22,12 +19,10 @@ use Rattle.rules.proofs.Followed.{revoke_by_ancestry}
 use Rattle.rules.proofs.Promise.{promise}
 use Rattle.rules.proofs.Table.{turns_by_table}
 use Rattle.layout.specs.Layout.{state_of, need, words_for, Enough}
-use Rattle.layout.specs.Stored.{Elsewhere}
-use Rattle.turn.specs.Turned.{Turned, Exact}
 use Rattle.boot.specs.Booted.{Booted}
-use Rattle.meterkernel.specs.Entries.{operation_words, answer_words, operation_in, answer_in, TooShort, TurnCalled}
-use Rattle.meterkernel.specs.Demands.{Turn, History, boot_answer, SafeAndTotal, AuthorityStays, PartitionsDontHear}
-use Rattle.meterkernel.proofs.Histories.{least?, accepted, turn-exact, Known, known}
+use Rattle.meterkernel.specs.Entries.{operation_words, answer_words, answer_in, TooShort, TurnCalled}
+use Rattle.meterkernel.specs.Demands.{boot_answer, SafeAndTotal, AuthorityStays, PartitionsDontHear}
+use Rattle.meterkernel.proofs.Histories.{least?, accepted, turn-exact, known}
 use Rattle.meterkernel.proofs.Running.{so_far, turn-of}
 use Rattle.meterkernel.proofs.Matrix.{closed_exactly}
 

@@ -1,27 +1,21 @@
 -- The demands at work on the worked example. Assumes nothing.
-use mathlib.Core.Path.{◌≡◌, refl, sym, ap, ap₂, ◌∙◌, subst}
-use mathlib.Core.Bool.{Bool, true, false}
-use mathlib.Core.List.{List, [], ◌∷◌, map, Memᴰ}
-use Prim.Native.Nat.{ℕ, zero, suc, ◌+◌, ◌≤◌, ◌<◌}
+use mathlib.Core.Path.{◌≡◌, refl, sym, ap, ◌∙◌, subst}
+use mathlib.Core.List.{List, [], ◌∷◌, Memᴰ}
+use Prim.Native.Nat.{ℕ, zero, suc, ◌<◌}
 use native.Mathlib.Omega.{arith}
-use lib.Dec.{eqb}
 use lib.ListN.{length, get_or}
 use borrow.Author.Tests.{eqb-true}
 use Rattle.rules.specs.State.{State, whose}
 use Rattle.rules.specs.Turn.{next, answer}
-use Rattle.rules.specs.Image.{Bytes, image_of, boot, refusal_of}
-use Rattle.rules.specs.Partition.{Programs, Run, chosen, stepped, run}
 use Rattle.rules.specs.Worked.{bytes, Row, row, rows, operations, played}
 use Rattle.rules.specs.declared.Operation.{Operation}
-use Rattle.rules.specs.declared.Answer.{Answer}
 use Rattle.rules.proofs.Worked.{rows-played, closed_exactly}
 use Rattle.layout.specs.Layout.{state_of}
 use Rattle.turn.specs.Turned.{Good, Exact}
-use Rattle.boot.specs.Booted.{Booted}
 use Rattle.boot.proofs.Loading.{worked_bytes, worked_right, worked_some}
-use Rattle.meterkernel.specs.Demands.{heard, Runs}
-use Rattle.meterkernel.specs.Example.{ExampleBoots, row_no, ExampleRun, metering, MeteringClosed, MeteringHearsNobody}
-use Rattle.meterkernel.proofs.Histories.{accepted, booted-good, turn-visits, turn-exact}
+use Rattle.meterkernel.specs.Demands.{heard}
+use Rattle.meterkernel.specs.Example.{ExampleBoots, ExampleRun, metering, MeteringClosed, MeteringHearsNobody}
+use Rattle.meterkernel.proofs.Histories.{accepted, turn-visits, turn-exact}
 use Rattle.meterkernel.proofs.Running.{so_far}
 use Rattle.meterkernel.proofs.Demands.{partitions_dont_hear}
 

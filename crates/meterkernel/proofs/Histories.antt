@@ -1,6 +1,6 @@
 -- What is known of a memory that came about: it is good, and its state is reached by the rules, with the record of births that the rules
 -- keep. Assumes nothing.
-use mathlib.Core.Path.{◌≡◌, refl, sym, ap, ◌∙◌, subst, subst₂}
+use mathlib.Core.Path.{◌≡◌, refl, sym, subst, subst₂}
 use mathlib.Core.Bool.{Bool, true, false}
 use mathlib.Core.List.{List}
 use mathlib.Core.Logic.{◌⊎◌, inl, inr, ⊎_elim}
@@ -9,16 +9,14 @@ use native.Mathlib.Omega.{arith}
 use lib.Dec.{leb}
 use lib.ListN.{length}
 use borrow.Author.Tests.{leb-true, leb-false}
-use Rattle.rules.specs.State.{State}
-use Rattle.rules.specs.Turn.{next}
-use Rattle.rules.specs.Image.{Bytes, size_f, image_of, boot, refusal_of}
+use Rattle.rules.specs.Image.{Bytes, size_f, refusal_of}
 use Rattle.rules.specs.Authority.{Reached, booted, turned}
 use Rattle.rules.specs.History.{Ledger, opened, recorded, Followed, booted as begun, turned as followed}
 use Rattle.rules.specs.declared.Operation.{Operation}
 use Rattle.rules.specs.declared.Answer.{Answer}
 use Rattle.rules.proofs.Places.{same?}
-use Rattle.layout.specs.Layout.{state_of, words_for, Enough}
-use Rattle.turn.specs.Turned.{Turned, Good, Exact}
+use Rattle.layout.specs.Layout.{state_of, words_for}
+use Rattle.turn.specs.Turned.{Good, Exact}
 use Rattle.boot.specs.Booted.{Loaded, Booted}
 use Rattle.boot.proofs.Loading.{boot-good}
 use Rattle.meterkernel.specs.Demands.{Turn, History, booted as from, turned as on}

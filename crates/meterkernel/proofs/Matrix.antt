@@ -1,10 +1,9 @@
 -- The matrix that mk_flow writes says which sets are closed: there is flow between domains of the image alone. Assumes nothing.
 use mathlib.Core.Path.{◌≡◌, refl, sym, subst}
-use mathlib.Core.Bool.{Bool, true, false}
+use mathlib.Core.Bool.{Bool, false}
 use mathlib.Core.List.{List, Memᴰ}
-use mathlib.Core.Logic.{◌↔◌, ◌⊎◌, inl, inr, ⊎_elim}
-use Prim.Native.Nat.{ℕ, ◌+◌, ◌*◌, ◌≤◌, ◌<◌}
-use lib.ListN.{length, get_or}
+use mathlib.Core.Logic.{◌↔◌, inl, inr}
+use Prim.Native.Nat.{ℕ, ◌<◌}
 use borrow.Author.Tests.{eqb-true}
 use Rattle.rules.specs.Image.{Entry, size_d, image_of, sourceless, defines, refusal_of}
 use Rattle.rules.specs.Flow.{Triple, CouldHold, image, passed, User, Case, frame, ringing, hearing, mailbox, derivation, Flow, itself, direct, onward, Closed}

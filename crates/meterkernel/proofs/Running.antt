@@ -1,10 +1,10 @@
 -- A run of the code is a run of the rules: after n turns the memory holds the state, and the domains have had the answers, that the rules
 -- say. Assumes nothing.
-use mathlib.Core.Path.{◌≡◌, refl, sym, ap, ap₂, ◌∙◌}
+use mathlib.Core.Path.{◌≡◌, refl, ap, ap₂, ◌∙◌}
 use mathlib.Core.List.{List, ◌∷◌}
 use Prim.Native.Nat.{ℕ, zero, suc, ◌≤◌, ◌<◌}
 use native.Mathlib.Omega.{arith}
-use Rattle.rules.specs.State.{State, whose}
+use Rattle.rules.specs.State.{whose}
 use Rattle.rules.specs.Turn.{set, next, answer}
 use Rattle.rules.specs.Image.{Bytes, image_of}
 use Rattle.rules.specs.Partition.{Programs, Run, chosen, stepped, run}

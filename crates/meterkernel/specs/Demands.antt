@@ -2,8 +2,8 @@
 -- allow (Booted, TurnCalled, Whose, Flows), with any bytes, any words and any lent memory. That each entry is proved without a `requires`
 -- says by itself that no words make it fail and that it ends. proofs/Demands.antt has the proofs. Assumes nothing.
 use Rattle.std.specs.Prelude.{◌≡◌, Bool, true, List, [], ◌∷◌, ◌↔◌, ℕ, zero, suc, ◌+◌, ◌*◌, ◌%◌, ◌≤◌, ◌<◌, leb, length, get_or}
-use Rattle.rules.specs.State.{State, slot, whose, Holds, Derived, Fits, Section4, Formed}
-use Rattle.rules.specs.Turn.{◌then◌else◌, set, refusal, Name, DELETE, REVOKE, named, advance, next, answer}
+use Rattle.rules.specs.State.{slot, whose, Holds, Derived, Fits, Section4, Formed}
+use Rattle.rules.specs.Turn.{◌then◌else◌, set, refusal, DELETE, REVOKE, named, advance, next, answer}
 use Rattle.rules.specs.Image.{Bytes, size_d, size_f, image_of, boot, refusal_of}
 use Rattle.rules.specs.Flow.{Closed}
 use Rattle.rules.specs.Authority.{Revoked, Deleted, Confined}

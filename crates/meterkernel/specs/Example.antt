@@ -1,7 +1,7 @@
 -- The demands at work on the worked example of documents 01 and 03, so that they are seen to speak of something: it can be booted, its
 -- turns give the document's rows, and {metering}, neither empty nor full, is a group into which nothing flows. proofs/Example.antt has the
 -- proofs. Assumes nothing.
-use Rattle.std.specs.Prelude.{◌≡◌, Bool, true, List, [], ℕ, ◌≤◌, ◌<◌, eqb, length, get_or}
+use Rattle.std.specs.Prelude.{◌≡◌, Bool, List, [], ℕ, ◌≤◌, ◌<◌, eqb, length, get_or}
 use Rattle.rules.specs.Image.{image_of}
 use Rattle.rules.specs.Flow.{Closed}
 use Rattle.rules.specs.Partition.{Programs}

@@ -1,5 +1,7 @@
 // The kernel's entries for C, and nothing else: each hands what it is lent to the crate that does the work. There is no state between
 // calls but in the memory that the caller lends. A slice is a pointer and a length, in two parameters of C.
+#![tactic(auto)]
+
 ghost use Rattle.std.specs.Prelude.{◌≡◌, ◌≤◌, length};
 ghost use Rattle.layout.specs.Layout.{words_of};
 ghost use Rattle.turn.specs.Turned.{Whose};
