@@ -122,7 +122,7 @@ pub fn object_at(n: usize) -> usize {
 
 // A capability that a line gives: the line, kind, rights, object and badge, the place of its source and 1 more, or 0 for none, and the words
 // that name the source.
-#[derive(Drop)]
+#[derive(Clone, Copy)]
 pub struct Gift {
     pub line: usize,
     pub kind: usize,

@@ -142,7 +142,7 @@ fn marked(text: &[u8], book: &mut [usize]) -> usize {
 }
 
 // Where a capability comes from.
-#[derive(Drop)]
+#[derive(Clone, Copy)]
 struct Source {
     place: usize,
     named: Word,

@@ -2,6 +2,8 @@
 // there and a line on standard error that names line and word. docs/IMAGES.md has the grammar. The bytes are written only where the proved
 // function of `image` refuses nothing; that they are what the text says is tested, not proved. Proved of it: it ends, no sum wraps, no index
 // is out of range.
+#![tactic(auto)]
+
 mod book;
 mod emit;
 mod lines;
@@ -9,7 +11,12 @@ mod names;
 mod sources;
 mod wrong;
 
-use libc::{STDERR_FILENO, STDIN_FILENO, STDOUT_FILENO};
+// The numbers of standard input, output and error.
+const STDIN_FILENO: i32 = 0;
+
+const STDOUT_FILENO: i32 = 1;
+
+const STDERR_FILENO: i32 = 2;
 
 // The longest text, and one byte more, which tells a longer one.
 const TEXT: usize = 262144;

@@ -1,6 +1,5 @@
 // Says what is wrong with the text, on standard error. Only the first thing is said, so what is read after it may be anything.
-use crate::book;
-use libc::STDERR_FILENO;
+use crate::{STDERR_FILENO, book};
 use words::Word;
 
 // Whether something is wrong.

@@ -1,6 +1,6 @@
 -- The laws of refusals 20 to 25: what each way out of the functions that test them has to show. Assumes nothing.
 use mathlib.Core.Path.{◌≡◌, refl, sym, ap, ◌∙◌, fun_ext}
-use mathlib.Core.Bool.{Bool, true, false, not, cond, ◌&&◌}
+use mathlib.Core.Bool.{Bool, true, false, cond, ◌&&◌}
 use mathlib.Core.List.{List, [], ◌∷◌}
 use Prim.Native.Nat.{ℕ, zero, suc, ◌+◌, ◌-◌, ◌*◌, ◌/◌, ◌≤◌, ◌<◌}
 use native.Mathlib.Omega.{arith}
@@ -8,7 +8,7 @@ use native.Mathlib.Numerals.{add-one}
 use lib.Dec.{eqb, leb, ltb, leb-zero}
 use lib.ListN.{length, take, drop}
 use lib.Seq.{drop-cons}
-use borrow.Author.Tests.{not-true, not-false, eqb-true, lt-ltb, le-ltb, le-leb, lt-leb, ne_eqb}
+use borrow.Author.Tests.{eqb-true, lt-ltb, le-ltb, le-leb, lt-leb, ne_eqb}
 use Rattle.rules.specs.Sizes.{mailboxes, bells}
 use Rattle.rules.specs.State.{FRAME, MAILBOX, objects}
 use Rattle.rules.specs.Turn.{◌then◌else◌}

@@ -21,8 +21,8 @@ fn mark_entry(image: &[u8], e: usize, answer: usize, cells: &mut [u8]) {
 
 // Marks the triples of the entries by their answers, which begin with answer first.
 fn mark_all(image: &[u8], answers: &[u8], first: usize, entries: usize, cells: &mut [u8])
-    requires fact_1 { first + entries < 33554432 }
-    requires fact_2 { entries < 65536 }
+    requires answers_in_range { first + entries < 33554432 }
+    requires entries_in_range { entries < 65536 }
 {
     for e in 0..entries {
         mark_entry(image, e, fields::byte(answers, first + e), cells);

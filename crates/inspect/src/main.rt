@@ -1,6 +1,8 @@
 // Looks at a boot image: the image on standard input, the view as the first argument. Each view has a file of its own, and says `refused N`
 // of what is no image. It asks the proved functions of `flow`, so what it prints of holding and flow is what document 03 defines; that it
 // prints that and nothing else is tested, not proved. Proved of it: it ends, no sum wraps, no index is out of range.
+#![tactic(auto)]
+
 mod chains;
 mod closed;
 mod direct;
@@ -15,10 +17,15 @@ mod table;
 mod verdict;
 mod words;
 
-use libc::{STDERR_FILENO, STDIN_FILENO};
+use std::rt::Env;
+
+// The numbers of standard input and standard error.
+const STDIN_FILENO: i32 = 0;
+
+const STDERR_FILENO: i32 = 2;
 
 // The views, and none of them.
-#[derive(Drop)]
+#[derive(Clone, Copy)]
 enum View {
     Report,
     Dot,
@@ -44,11 +51,13 @@ fn view_of(word: &[u8]) -> View {
     View::None
 }
 
-// The view of the first argument.
-fn asked() -> View {
+// The view of the first argument. A missing argument, and one that is longer than any view's name, is none.
+fn asked(rt: &impl Env) -> View {
     let mut word = [0u8; 16];
-    let length = os::arg(1, &mut word);
-    view_of(&word[..length])
+    match rt.arg(1, &mut word) {
+        Ok(length) => view_of(&word[..length]),
+        Err(_) => View::None,
+    }
 }
 
 // Says how the program is called.
@@ -73,8 +82,8 @@ fn show(view: View, image: &[u8], buffer: &mut [u8]) -> usize {
     }
 }
 
-fn main() {
-    let view = asked();
+fn main(rt: HostRuntime) {
+    let view = asked(&rt);
     if let View::None = view {
         usage();
         return;

@@ -3,15 +3,21 @@
 // domain, the operation and the answer. What is wrong is said on standard error, and nothing is played after it. The memory that it takes does
 // not grow with the number of lines. The turns are those of the proved functions; that what it prints is what they answer is tested, not
 // proved. Proved of it: it ends, no sum wraps, no index is out of range.
+#![tactic(auto)]
+
 mod answer;
 mod desk;
 mod line;
 
 ghost use Rattle.std.specs.Prelude.{◌+◌, ◌≤◌, ◌<◌, length};
 
-use libc::{STDERR_FILENO, STDIN_FILENO};
 use rules::Operation;
 use words::Word;
+
+// The numbers of standard input and standard error.
+const STDIN_FILENO: i32 = 0;
+
+const STDERR_FILENO: i32 = 2;
 
 // The bytes that are read at once.
 const CHUNK: usize = 4096;

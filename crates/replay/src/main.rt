@@ -2,10 +2,17 @@
 // refusal or 0, then for each operation eight u32: the domain whose turn it was, the status, six words. With the word 'written' as its
 // argument it writes instead what the writer gives after the last operation: a u32, the refusal or 0, and then the image. Numbers are
 // big-endian. The memory that it takes does not grow with the number of operations.
+#![tactic(auto)]
+
 ghost use Rattle.std.specs.Prelude.{◌≡◌, ◌+◌, ◌*◌, ◌≤◌, ◌<◌, min, length};
 
-use libc::{STDIN_FILENO, STDOUT_FILENO};
 use rules::Operation;
+use std::rt::Env;
+
+// The numbers of standard input and standard output.
+const STDIN_FILENO: i32 = 0;
+
+const STDOUT_FILENO: i32 = 1;
 
 const CHUNK: usize = 4096;
 
@@ -75,8 +82,8 @@ fn replay(mem: &mut [u32], input: &[u8], output: &mut [u8], i: usize)
 
 // The first n operations of a chunk.
 fn chunk(mem: &mut [u32], input: &[u8], output: &mut [u8], n: usize)
-    requires fact_1 { 32 * n ≤ length input.now }
-    requires fact_2 { 32 * n ≤ length output.old }
+    requires input_holds { 32 * n ≤ length input.now }
+    requires output_holds { 32 * n ≤ length output.old }
     ensures { length output.new ≡ length output.old }
 {
     let mut k = 0;
@@ -145,10 +152,12 @@ fn begin(mem: &mut [u32], space: &mut [u8], length: usize) -> u32 {
 }
 
 // The argument is the word 'written'.
-fn written() -> bool {
+fn written(rt: &impl Env) -> bool {
     let mut word = [0u8; 8];
-    let n = os::arg(1, &mut word);
-    check::same(&word[..n], b"written")
+    match rt.arg(1, &mut word) {
+        Ok(n) => check::same(&word[..n], b"written"),
+        Err(_) => false,
+    }
 }
 
 // Writes a number to standard output.
@@ -168,8 +177,8 @@ fn give(mem: &[u32], space: &mut [u8]) {
 }
 
 // The operations of an accepted image: their answers, or what the writer gives after them.
-fn follow(mem: &mut [u32], space: &mut [u8]) {
-    if written() {
+fn follow(rt: &impl Env, mem: &mut [u32], space: &mut [u8]) {
+    if written(rt) {
         all(mem, true);
         give(mem, space);
     } else if say(0) {
@@ -177,7 +186,7 @@ fn follow(mem: &mut [u32], space: &mut [u8]) {
     }
 }
 
-fn main() {
+fn main(rt: HostRuntime) {
     let mut head = [0u8; 4];
     if io::read_full(STDIN_FILENO, &mut head) < 4 {
         return;
@@ -187,7 +196,7 @@ fn main() {
     let mut mem = [0u32; WORDS];
     let refusal = begin(&mut mem, &mut space, length);
     if refusal == 0 {
-        follow(&mut mem, &mut space);
+        follow(&rt, &mut mem, &mut space);
     } else {
         say(refusal);
     }

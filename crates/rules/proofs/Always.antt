@@ -1,28 +1,22 @@
 -- Section 4 of document 01 is kept by each licensed effect, in a state that is as sections 1 and 2 say. Assumes nothing.
 use mathlib.Core.Path.{◌≡◌, refl, sym, ap, ◌∙◌, subst}
 use mathlib.Core.Bool.{Bool, true, false, cond}
-use mathlib.Core.List.{List}
 use mathlib.Core.Logic.{◌⊎◌, inl, inr, ⊎_elim}
-use Prim.Native.Nat.{ℕ, zero, suc, ◌+◌, ◌*◌, ◌≤◌, ◌<◌}
+use Prim.Native.Nat.{ℕ, suc, ◌≤◌, ◌<◌}
 use native.Mathlib.Omega.{arith}
 use lib.Dec.{eqb}
-use lib.ListN.{length, get_or}
-use lib.Bits.{bit_and, bit_or, and_le_l, or_lt}
-use borrow.Author.Tests.{eqb-true, eqb-false}
-use Rattle.rules.specs.Sizes.{domains_most, slots, all_slots, places, badge_most}
-use Rattle.rules.specs.State.{State, Places, GRANT, within, slot, room, nothing, no_message, whose, Holds, Source, Derived, direct, further, derived_from, Fits, Section4, WellFormed, Formed, Sound}
-use Rattle.rules.specs.Turn.{held, derived, copied, set, dropped, pruned, changed, apply, advance, next, decide}
-use Rattle.rules.specs.Authority.{Reached, booted, turned, Section4Always, FormedAlways, TestIsDerived, SameButSource}
+use borrow.Author.Tests.{eqb-true}
+use Rattle.rules.specs.Sizes.{domains_most, slots, all_slots, badge_most}
+use Rattle.rules.specs.State.{State, Places, slot, room, nothing, Holds, Source, Derived, derived_from, Fits, Section4, Formed, Sound}
+use Rattle.rules.specs.Turn.{held, derived, copied, set, pruned, apply}
 use Rattle.rules.specs.declared.Capability.{Capability}
-use Rattle.rules.specs.declared.Message.{Message}
-use Rattle.rules.specs.declared.Operation.{Operation}
 use Rattle.rules.specs.declared.Effect.{Effect}
-use Rattle.rules.proofs.Laws.{set_here, set_there, within_trans, within-meet, within-refl, decided_by, not_both}
-use Rattle.rules.proofs.Places.{same?, resourced, pruned-gone, pruned-kept}
-use Rattle.rules.proofs.Licence.{Has, Owns, Free, Licence, nothing-done, stores, rings, hushes, puts, drops, prunes, posts, sends, takes, gets, licensed}
+use Rattle.rules.proofs.Laws.{set_here, set_there, within-meet, within-refl, decided_by, not_both}
+use Rattle.rules.proofs.Places.{same?, pruned-gone, pruned-kept}
+use Rattle.rules.proofs.Licence.{Licence, nothing-done, stores, rings, hushes, puts, drops, prunes, posts, sends, takes, gets}
 use Rattle.rules.proofs.Derivation.{Leaf}
 use Rattle.rules.proofs.Chain.{test_is_derived}
-use Rattle.rules.proofs.Section4.{section4-changed, section4-dropped, section4-pruned, empty_leaf, dropped_alike}
+use Rattle.rules.proofs.Section4.{section4-changed, section4-dropped, section4-pruned, empty_leaf}
 
 -- ---- section 4
 

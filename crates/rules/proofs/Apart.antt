@@ -1,10 +1,7 @@
 -- Rule 2 of document 03, section 1, asks for WRITE and GRANT together in one triple. Assumes nothing.
-use mathlib.Core.Path.{◌≡◌, refl, sym, subst}
-use mathlib.Core.List.{Memᴰ}
-use Prim.Native.Nat.{ℕ}
+use mathlib.Core.Path.{refl, sym, subst}
 use Rattle.rules.specs.State.{MAILBOX, WRITE, GRANT}
-use Rattle.rules.specs.Image.{Entry, Image}
-use Rattle.rules.specs.Flow.{Triple, triple_of, For, CouldHold, image, passed}
+use Rattle.rules.specs.Flow.{For, image, passed}
 use Rattle.rules.specs.Authority.{ApartIsNotEnough}
 
 pub apart_is_not_enough : ApartIsNotEnough

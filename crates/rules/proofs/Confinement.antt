@@ -1,22 +1,21 @@
 -- Confinement, document 03 section 1: each licensed effect keeps every capability within what its holder could hold, and one under way
 -- within what every reader of its mailbox could hold. Assumes nothing.
-use mathlib.Core.Path.{◌≡◌, refl, sym, ap, ◌∙◌, subst}
-use mathlib.Core.Bool.{Bool, true, false}
-use mathlib.Core.Logic.{◌⊎◌, inl, inr, ⊎_elim}
-use Prim.Native.Nat.{ℕ, zero, suc, ◌+◌, ◌*◌, ◌≤◌, ◌<◌}
+use mathlib.Core.Path.{◌≡◌, refl, sym, ◌∙◌, subst}
+use mathlib.Core.Bool.{true}
+use Prim.Native.Nat.{ℕ, ◌<◌}
 use native.Mathlib.Omega.{arith}
-use Rattle.rules.specs.Sizes.{domains_most, slots, all_slots}
-use Rattle.rules.specs.State.{State, Places, MAILBOX, READ, WRITE, GRANT, within, slot, room, nothing, whose, Holds, Source, Fits, Formed}
-use Rattle.rules.specs.Turn.{held, copied, set, dropped, pruned, apply, advance, next}
+use Rattle.rules.specs.Sizes.{domains_most, slots}
+use Rattle.rules.specs.State.{State, MAILBOX, within, slot, room, nothing, whose, Fits, Formed}
+use Rattle.rules.specs.Turn.{held, apply, advance, next}
 use Rattle.rules.specs.Image.{Image}
-use Rattle.rules.specs.Flow.{Triple, For, CouldHold, passed, Could, Reader}
+use Rattle.rules.specs.Flow.{For, passed, Could, Reader}
 use Rattle.rules.specs.Authority.{Covered, Confined}
 use Rattle.rules.specs.declared.Capability.{Capability}
 use Rattle.rules.specs.declared.Operation.{Operation}
 use Rattle.rules.specs.declared.Effect.{Effect}
 use Rattle.rules.proofs.Laws.{set-each, within_trans, within-refl}
-use Rattle.rules.proofs.Places.{resourced, each-dropped, each-pruned}
-use Rattle.rules.proofs.Licence.{Has, Owns, Free, Licence, nothing-done, stores, rings, hushes, puts, drops, prunes, posts, sends, takes, gets, licensed}
+use Rattle.rules.proofs.Places.{each-dropped, each-pruned}
+use Rattle.rules.proofs.Licence.{Owns, Licence, nothing-done, stores, rings, hushes, puts, drops, prunes, posts, sends, takes, gets, licensed}
 use Rattle.rules.proofs.Fixed.{apply_fixed}
 use Rattle.rules.proofs.Always.{derived_made, copied_made, slot-room}
 use Rattle.rules.proofs.Formed.{whose-low}

@@ -1,13 +1,12 @@
 -- What becomes of `Derived` when a place that is nobody's source changes, when a place is dropped, and when what is derived from a
 -- place is pruned. Assumes nothing.
-use mathlib.Core.Path.{◌≡◌, refl, sym, ap, ◌∙◌, subst}
-use mathlib.Core.Bool.{Bool, true, false, cond}
+use mathlib.Core.Path.{◌≡◌, sym, ap, ◌∙◌, subst}
 use mathlib.Core.Logic.{◌⊎◌, inl, inr, ⊎_elim}
-use Prim.Native.Nat.{ℕ, zero, suc, ◌≤◌, ◌<◌}
+use Prim.Native.Nat.{ℕ, suc}
 use native.Mathlib.Omega.{arith}
-use Rattle.rules.specs.State.{Places, nothing, Holds, Source, Derived, direct, further}
+use Rattle.rules.specs.State.{Places, nothing, Source, Derived, direct, further}
 use Rattle.rules.specs.Turn.{dropped}
-use Rattle.rules.proofs.Places.{same?, resourced, dropped-here, dropped_child, dropped_other}
+use Rattle.rules.proofs.Places.{same?, dropped-here, dropped_child, dropped_other}
 
 -- the way from p to q, and on from q to r
 pub chain : {at : Places} {p q r : ℕ} → Derived at p q → Derived at q r → Derived at p r

@@ -3,14 +3,12 @@
 use mathlib.Core.Path.{◌≡◌, refl, sym, ap, ◌∙◌, subst}
 use mathlib.Core.Bool.{Bool, true, false, cond}
 use mathlib.Core.List.{List}
-use mathlib.Core.Logic.{◌⊎◌, inl, inr, ⊎_elim, ◌↔◌}
-use Prim.Native.Nat.{ℕ, zero, suc, ◌≤◌, ◌<◌}
+use mathlib.Core.Logic.{⊎_elim}
+use Prim.Native.Nat.{ℕ, suc}
 use native.Mathlib.Omega.{arith}
 use lib.Dec.{eqb, eqb-suc-zero}
-use Rattle.rules.specs.Sizes.{places}
-use Rattle.rules.specs.State.{State, Places, slot, room, nothing, whose, Holds, Source, Derived, direct, further, Formed, Sound}
-use Rattle.rules.specs.Turn.{any_slot_refusal, words, refusal, conclude, load, store, derived, derive, delete, revoke, ring, hear, copied, goes, send, moves, receive, look, Name, IDLE, LOAD, STORE, DERIVE, DELETE, REVOKE, RING, HEAR, SEND, RECEIVE, LOOK, unknown, named, decided, decide, held, set, dropped, pruned, apply, advance, next, answer}
-use Rattle.rules.specs.Image.{Bytes, refusal_of, image_of, boot}
+use Rattle.rules.specs.State.{State, Places, slot, room, nothing, whose, Holds, Source, Derived, direct, further, Sound}
+use Rattle.rules.specs.Turn.{refusal, load, store, derived, derive, delete, revoke, ring, hear, copied, goes, send, moves, receive, look, Name, IDLE, LOAD, STORE, DERIVE, DELETE, REVOKE, RING, HEAR, SEND, RECEIVE, LOOK, unknown, named, decided, decide, held, set, dropped, pruned, apply, advance, next, answer}
 use Rattle.rules.specs.Authority.{Reached, booted, turned}
 use Rattle.rules.specs.History.{Ledger, Ancestor, parent, older, opened, born, moved, noted, recorded, Followed, booted as opens, turned as goes_on, DerivedIsAncestry, RevokeByAncestry}
 use Rattle.rules.specs.declared.Capability.{Capability}
@@ -21,12 +19,12 @@ use Rattle.rules.specs.declared.Effect.{Effect}
 use Rattle.rules.specs.declared.Effect.TheVariants.{Nothing, Put, Post, Take, Move}
 use Rattle.rules.proofs.Laws.{concluded_both, unrefused, set_here, set_there}
 use Rattle.rules.proofs.Licence.{Licence, by_name, needed, licensed}
-use Rattle.rules.proofs.Places.{same?, dropped-here}
+use Rattle.rules.proofs.Places.{dropped-here}
 use Rattle.rules.proofs.Derivation.{Leaf, changed-back, changed_on, dropped-back, dropped_on, pruned-back, pruned_on}
 use Rattle.rules.proofs.Section4.{dropped_alike, empty_leaf}
-use Rattle.rules.proofs.Always.{room_leaf, derived_made, copied_made, pruning-gone, pruning-kept, pruning_either}
+use Rattle.rules.proofs.Always.{room_leaf, pruning-gone, pruning-kept, pruning_either}
 use Rattle.rules.proofs.Revoke.{sources-held, revoking}
-use Rattle.rules.proofs.Reached.{sound, sound_next, revoke_exactly}
+use Rattle.rules.proofs.Reached.{sound, revoke_exactly}
 use Rattle.rules.proofs.History.{Kept, kept_fewer, kept-born, kept-moved}
 
 -- a place that is nobody's source is emptied

@@ -1,23 +1,21 @@
 -- Sections 1 and 2 of document 01 are kept by each licensed effect: kinds, rights, objects, badges and sources in range, and nothing
 -- where there is no place. Assumes nothing.
 use mathlib.Core.Path.{◌≡◌, refl, sym, ap, ◌∙◌, subst}
-use mathlib.Core.Bool.{Bool, true, false, cond}
-use mathlib.Core.Logic.{◌⊎◌, inl, inr, ⊎_elim}
-use Prim.Native.Nat.{ℕ, zero, suc, ◌+◌, ◌*◌, ◌^◌, ◌≤◌, ◌<◌}
+use mathlib.Core.Bool.{true}
+use mathlib.Core.Logic.{⊎_elim}
+use Prim.Native.Nat.{ℕ, suc, ◌^◌, ◌≤◌, ◌<◌}
 use native.Mathlib.Omega.{arith}
-use lib.Dec.{eqb}
-use lib.ListN.{length}
 use lib.Bits.{bit_and, bit_or, and_le_r, or_lt}
-use borrow.Author.Tests.{eqb-true, eqb-false}
+use borrow.Author.Tests.{eqb-true}
 use Rattle.rules.specs.Sizes.{domains_most, slots, all_slots, mailboxes, places, badge_most}
 use Rattle.rules.specs.State.{State, Places, MAILBOX, WRITE, GRANT, within, slot, room, nothing, no_message, whose, Holds, Source, objects, Fits, WellFormed, Formed}
-use Rattle.rules.specs.Turn.{held, set, dropped, pruned, changed, apply}
+use Rattle.rules.specs.Turn.{held, set, changed, apply}
 use Rattle.rules.specs.declared.Capability.{Capability}
 use Rattle.rules.specs.declared.Message.{Message}
 use Rattle.rules.specs.declared.Effect.{Effect}
 use Rattle.rules.proofs.Laws.{set-each, set_here, set_there, within_trans, within-refl}
 use Rattle.rules.proofs.Places.{same?, resourced, take_empties, move_empties, each-dropped, each-pruned}
-use Rattle.rules.proofs.Licence.{Has, Owns, Free, Licence, nothing-done, stores, rings, hushes, puts, drops, prunes, posts, sends, takes, gets}
+use Rattle.rules.proofs.Licence.{Has, Owns, Licence, nothing-done, stores, rings, hushes, puts, drops, prunes, posts, sends, takes, gets}
 use Rattle.rules.proofs.Section4.{dropped_alike}
 use Rattle.rules.proofs.Always.{Made, derived_made, copied_made, slot-room}
 

@@ -1,20 +1,18 @@
 -- What licenses an effect: the checks of document 01, section 3, walked once. Whatever an operation of domain d does in state s, d
 -- holds the capabilities for it. Invariants go by cases on licences and never on checks. Assumes nothing.
-use mathlib.Core.Path.{◌≡◌, refl, ap, subst}
-use mathlib.Core.Bool.{Bool, true, false, cond, not, ◌&&◌, ◌||◌}
-use Prim.Native.Nat.{ℕ, zero, suc, ◌≤◌, ◌<◌}
-use lib.Dec.{eqb, leb, ltb}
+use mathlib.Core.Path.{◌≡◌, refl, ap}
+use mathlib.Core.Bool.{Bool, true, false, cond, not, ◌||◌}
+use Prim.Native.Nat.{ℕ, ◌≤◌, ◌<◌}
 use borrow.Author.Tests.{ltb-true, leb-true, eqb-true}
 use Rattle.rules.specs.Sizes.{slots, frame_words, badge_most}
 use Rattle.rules.specs.State.{State, FRAME, MAILBOX, BELL, READ, WRITE, GRANT, within, slot, room, nothing, whose, Holds}
-use Rattle.rules.specs.Turn.{◌then◌else◌, held, holds, full, any_slot_refusal, slot_for_refusal, words, conclude, load, store, derived, derive, delete, revoke, ring, hear, copied, goes, send, moves, receive, look, Name, IDLE, LOAD, STORE, DERIVE, DELETE, REVOKE, RING, HEAR, SEND, RECEIVE, LOOK, unknown, named, decided, decide, apply, advance, next, answer}
+use Rattle.rules.specs.Turn.{◌then◌else◌, held, holds, any_slot_refusal, slot_for_refusal, load, store, derived, derive, delete, revoke, ring, hear, copied, goes, send, moves, receive, look, Name, IDLE, LOAD, STORE, DERIVE, DELETE, REVOKE, RING, HEAR, SEND, RECEIVE, LOOK, unknown, named, decided, decide, apply, advance, next, answer}
 use Rattle.rules.specs.Authority.{RefusalLeaves}
 use Rattle.rules.specs.declared.Capability.{Capability}
-use Rattle.rules.specs.declared.Message.{Message}
 use Rattle.rules.specs.declared.Operation.{Operation}
 use Rattle.rules.specs.declared.Effect.{Effect}
 use Rattle.rules.specs.declared.Effect.TheVariants.{Nothing, Store, Ring, Hush, Put, Drop, Prune, Post, Take, Move}
-use Rattle.rules.proofs.Laws.{both, flips, passes, Leaves, leaves, concluded, present-true, present-false}
+use Rattle.rules.proofs.Laws.{both, passes, Leaves, leaves, concluded, present-true, present-false}
 
 -- slot x of domain d holds a capability
 pub record Has (s : State) (d x : ℕ) : Type 0 where

@@ -7,8 +7,8 @@ use native.Mathlib.Omega.{arith}
 use lib.Dec.{ltb}
 use borrow.Author.Tests.{ltb-true, lt-ltb, le-leb, ne_eqb}
 use Rattle.rules.specs.Sizes.{domains_most, slots}
-use Rattle.rules.specs.State.{State, MAILBOX, READ, WRITE, GRANT, within, slot, room, nothing, no_message, whose}
-use Rattle.rules.specs.Turn.{◌then◌else◌, held, present, holds, slot_for_refusal, conclude, send, moves, receive, SEND, RECEIVE, named, decided, decide, apply, advance, next, answer}
+use Rattle.rules.specs.State.{State, MAILBOX, READ, WRITE, GRANT, within, slot, room, no_message, whose}
+use Rattle.rules.specs.Turn.{◌then◌else◌, held, present, holds, slot_for_refusal, conclude, send, moves, receive, RECEIVE, named, decided, decide, apply, advance, next, answer}
 use Rattle.rules.specs.Authority.{SendNeedsGrant, SendBadge, Received}
 use Rattle.rules.specs.declared.Operation.{Operation}
 use Rattle.rules.specs.declared.Answer.{Answer}

@@ -1,13 +1,13 @@
 -- What an effect does to the places: a capability set, a place dropped, what is derived from a place pruned, a mailbox emptied. An
 -- invariant of the shape 'each place, with what it holds, satisfies Q' goes through a drop and a pruning here, and through a setting by
 -- set-each. Assumes nothing.
-use mathlib.Core.Path.{◌≡◌, refl, sym, ap, ◌∙◌, subst}
+use mathlib.Core.Path.{◌≡◌, refl, ◌∙◌}
 use mathlib.Core.Bool.{Bool, true, false, cond}
 use mathlib.Core.Logic.{◌⊎◌, inl, inr}
-use Prim.Native.Nat.{ℕ, zero, suc, ◌≤◌, ◌<◌}
+use Prim.Native.Nat.{ℕ, suc}
 use lib.Dec.{eqb}
 use borrow.Author.Tests.{eqb-true, eqb-false, eq-eqb, ne_eqb}
-use Rattle.rules.specs.State.{State, Places, room, nothing, Holds, Source, derived_from}
+use Rattle.rules.specs.State.{State, Places, room, nothing, Source, derived_from}
 use Rattle.rules.specs.Turn.{dropped, pruned, apply}
 use Rattle.rules.specs.declared.Capability.{Capability}
 use Rattle.rules.specs.declared.Effect.TheVariants.{Take, Move}

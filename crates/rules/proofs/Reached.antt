@@ -1,17 +1,17 @@
 -- What holds of every reached state, from the image on: sections 1, 2 and 4 of document 01, what REVOKE, DELETE and RECEIVE do, and
 -- confinement.
 -- Assumes nothing.
-use mathlib.Core.Path.{◌≡◌, refl, sym, ap, ◌∙◌, subst}
+use mathlib.Core.Path.{◌≡◌, refl, sym, subst}
 use mathlib.Core.Bool.{Bool, true, false, cond}
 use mathlib.Core.List.{List, Memᴰ}
-use Prim.Native.Nat.{ℕ, zero, suc, ◌+◌, ◌≤◌, ◌<◌}
+use Prim.Native.Nat.{ℕ, suc, ◌<◌}
 use native.Mathlib.Omega.{arith}
 use native.Mathlib.Nat.{le_trans}
 use lib.Dec.{eqb}
-use lib.ListN.{length, get_or}
-use borrow.Author.Tests.{eqb-true, eqb-false}
-use Rattle.rules.specs.State.{State, slot, room, whose, Derived, Section4, Formed, Sound}
-use Rattle.rules.specs.Turn.{apply, advance, next, decide}
+use lib.ListN.{length}
+use borrow.Author.Tests.{eqb-false}
+use Rattle.rules.specs.State.{State, slot, room, whose, Formed, Sound}
+use Rattle.rules.specs.Turn.{advance, next}
 use Rattle.rules.specs.Image.{Bytes, Entry, Image, refusal_of, image_of, capability_given, given, boot}
 use Rattle.rules.specs.Flow.{triple_of, image}
 use Rattle.rules.specs.Authority.{Reached, booted, turned, Section4Always, FormedAlways, NeverMore, RevokeExactly, DeleteKeeps, ReusedIsFresh, ReceiveEmpties, Covered, Confined, Confinement}

@@ -1,13 +1,10 @@
 -- What REVOKE and DELETE do, exactly, and that a reused slot inherits nothing. Assumes nothing.
-use mathlib.Core.Path.{◌≡◌, refl, sym, ap, ◌∙◌, subst}
-use mathlib.Core.Bool.{Bool, true, false}
-use mathlib.Core.List.{List}
-use mathlib.Core.Logic.{◌⊎◌, inl, inr, ⊎_elim}
-use Prim.Native.Nat.{ℕ, zero, suc, ◌<◌}
+use mathlib.Core.Path.{◌≡◌, refl, sym, subst}
+use Prim.Native.Nat.{ℕ, zero, suc}
 use native.Mathlib.Omega.{arith}
-use Rattle.rules.specs.State.{State, Places, slot, room, nothing, whose, Holds, Source, Derived, Section4, Formed, Sound}
-use Rattle.rules.specs.Turn.{any_slot_refusal, words, conclude, delete, revoke, Name, DELETE, REVOKE, named, decided, decide, held, derived, copied, set, dropped, pruned, apply, advance, next, answer}
-use Rattle.rules.specs.Authority.{Reached, OnlyPlaces, Revoked, RevokeExactly, Deleted, DeleteKeeps, ReusedIsFresh}
+use Rattle.rules.specs.State.{State, slot, room, nothing, whose, Holds, Source, Derived, Sound}
+use Rattle.rules.specs.Turn.{any_slot_refusal, words, conclude, delete, revoke, Name, DELETE, REVOKE, named, decided, decide, held, apply, advance, next, answer}
+use Rattle.rules.specs.Authority.{Revoked, Deleted}
 use Rattle.rules.specs.declared.Capability.{Capability}
 use Rattle.rules.specs.declared.Answer.{Answer}
 use Rattle.rules.specs.declared.Operation.{Operation}

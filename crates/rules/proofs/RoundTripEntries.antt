@@ -14,7 +14,7 @@ use lib.Arith.{digits_div, digits_mod}
 use lib.Seq.{drop-cons, drop-drop, drop_at, get_or-drop}
 use borrow.Author.Tests.{ltb-true, lt-ltb, eqb-true, eqb-false, eq-eqb, ne_eqb}
 use Rattle.rules.specs.Sizes.{slots, all_slots}
-use Rattle.rules.specs.State.{slot, nothing, Places, Holds}
+use Rattle.rules.specs.State.{nothing, Places, Holds}
 use Rattle.rules.specs.Turn.{present}
 use Rattle.rules.specs.Image.{Entry, Bytes, byte, entry_bytes, entry_at, entries_from, place_of, no_domain, sourceless, source_of, capability_given, given, rising_from, rising, source_bytes, entry_for, occupied, entries_for}
 use Rattle.rules.specs.declared.Capability.{Capability}

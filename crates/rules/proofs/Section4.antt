@@ -1,9 +1,9 @@
 -- Section 4 of document 01 is kept by each of the three things that effects do to places; and a derived capability is never more than
 -- what it is derived from. Assumes nothing.
-use mathlib.Core.Path.{◌≡◌, refl, sym, ap, ◌∙◌, subst}
-use mathlib.Core.Bool.{Bool, true, false}
+use mathlib.Core.Path.{◌≡◌, sym, ap, ◌∙◌, subst}
+use mathlib.Core.Bool.{true}
 use mathlib.Core.Logic.{◌⊎◌, inl, inr, ⊎_elim}
-use Prim.Native.Nat.{ℕ, zero, suc}
+use Prim.Native.Nat.{ℕ, suc}
 use Rattle.rules.specs.State.{Places, nothing, Holds, Source, Derived, direct, further, Fits, Section4}
 use Rattle.rules.specs.Turn.{dropped}
 use Rattle.rules.specs.Authority.{SameButSource}

@@ -1,10 +1,10 @@
 -- What is proved of authority (the second demand), over every state that is reached from an accepted image by any sequence of turns.
 -- The statements; proofs/ has a proof of each under the same name in small letters. Assumes nothing.
-use Rattle.std.specs.Prelude.{◌≡◌, Bool, true, false, ◌↔◌, ℕ, ◌≤◌, ◌<◌}
+use Rattle.std.specs.Prelude.{◌≡◌, true, false, ◌↔◌, ℕ, ◌≤◌, ◌<◌}
 use mathlib.Core.List.{List, Memᴰ}
 use Rattle.rules.specs.Sizes.{slots}
-use Rattle.rules.specs.State.{State, Places, MAILBOX, READ, WRITE, GRANT, within, slot, room, nothing, no_message, whose, Holds, Derived, Fits, Section4, Formed, derived_from}
-use Rattle.rules.specs.Turn.{held, slot_for_refusal, refusal, Name, DELETE, REVOKE, SEND, RECEIVE, named, advance, answer, next}
+use Rattle.rules.specs.State.{State, MAILBOX, READ, WRITE, GRANT, within, slot, room, nothing, no_message, whose, Holds, Derived, Fits, Section4, Formed, derived_from}
+use Rattle.rules.specs.Turn.{held, slot_for_refusal, refusal, DELETE, REVOKE, SEND, RECEIVE, named, advance, answer, next}
 use Rattle.rules.specs.Image.{Bytes, Entry, Image, image_of, sourceless, defines, given, boot, some, refusal_of_form, refusal_of}
 use Rattle.rules.specs.Flow.{Triple, triple_of, For, CouldHold, Reader}
 use Rattle.rules.specs.declared.Capability.{Capability}

@@ -1,7 +1,7 @@
 -- Document 03: what a domain could ever hold, what may flow where, and closed sets, from an image's entries alone.
 -- Assumes nothing.
 use Rattle.std.specs.Prelude.{◌≡◌, Bool, true, false, ◌⊎◌, ℕ, ◌<◌}
-use mathlib.Core.List.{List, Memᴰ}
+use mathlib.Core.List.{Memᴰ}
 use Rattle.rules.specs.State.{FRAME, MAILBOX, BELL, READ, WRITE, GRANT, within}
 use Rattle.rules.specs.Image.{Entry, Image, sourceless}
 

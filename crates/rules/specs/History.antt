@@ -1,11 +1,11 @@
 -- Every capability followed from its birth: at boot, by DERIVE or by SEND; RECEIVE moves it. A birth's parent is the capability that it
 -- was made from, for ever, also after that one is gone. The statements; proofs/ has a proof of each under the same name in small letters.
 -- Assumes nothing.
-use Rattle.std.specs.Prelude.{◌≡◌, Bool, true, false, cond, List, ◌↔◌, ℕ, zero, suc, eqb}
+use Rattle.std.specs.Prelude.{◌≡◌, cond, List, ◌↔◌, ℕ, suc, eqb}
 use Rattle.rules.specs.Sizes.{places}
 use Rattle.rules.specs.State.{State, slot, room, whose, Holds, Derived}
 use Rattle.rules.specs.Turn.{Name, IDLE, LOAD, STORE, DERIVE, DELETE, REVOKE, RING, HEAR, SEND, RECEIVE, LOOK, unknown, named, held, goes, set, answer, next}
-use Rattle.rules.specs.Image.{Bytes, Image, image_of, boot, refusal_of}
+use Rattle.rules.specs.Image.{Bytes, image_of, boot, refusal_of}
 use Rattle.rules.specs.declared.Operation.{Operation}
 use Rattle.rules.specs.declared.Answer.{Answer}
 

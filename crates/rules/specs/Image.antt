@@ -2,7 +2,7 @@
 -- A list of numbers stands for bytes. Assumes nothing.
 use Rattle.std.specs.Prelude.{Bool, true, false, cond, not, ◌&&◌, ◌||◌, List, [], ◌∷◌, ◌++◌, ℕ, zero, suc, ◌+◌, ◌-◌, ◌*◌, ◌/◌, ◌%◌, ◌<◌, eqb, leb, ltb, length, get_or, take, drop, replicate}
 use Rattle.rules.specs.Sizes.{domains_most, slots, frames_most, frame_words, mailboxes, bells, turns_most, entries_most, places}
-use Rattle.rules.specs.State.{State, Places, FRAME, MAILBOX, BELL, READ, WRITE, GRANT, within, slot, room, nothing, no_message, objects, comes_to}
+use Rattle.rules.specs.State.{State, Places, FRAME, MAILBOX, BELL, READ, WRITE, GRANT, within, slot, nothing, no_message, objects, comes_to}
 use Rattle.rules.specs.Turn.{◌then◌else◌, holds, full}
 use Rattle.rules.specs.declared.Capability.{Capability}
 

@@ -1,6 +1,6 @@
 -- Document 03, section 3: programs, runs and the promise (the third demand). The statements; proofs/ has a proof of each under the same
 -- name in small letters. Assumes nothing.
-use Rattle.std.specs.Prelude.{◌≡◌, Bool, true, false, List, [], ◌∷◌, ℕ, zero, suc, ◌%◌, length, get_or}
+use Rattle.std.specs.Prelude.{◌≡◌, Bool, true, List, [], ◌∷◌, ℕ, zero, suc, ◌%◌, length, get_or}
 use Rattle.rules.specs.State.{State, whose}
 use Rattle.rules.specs.Turn.{set, answer, next}
 use Rattle.rules.specs.Image.{Bytes, Image, image_of, boot, refusal_of}

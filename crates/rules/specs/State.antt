@@ -1,7 +1,7 @@
 -- Document 01, sections 2 and 4: the state, places, what is derived from a place, and what always holds.
 -- Numbers stand for everything, and 0 for nothing: kind 0 is an empty place, source 0 is no source, source p + 1 is place p.
 -- Assumes nothing.
-use Rattle.std.specs.Prelude.{◌≡◌, Bool, true, false, cond, ◌||◌, List, ℕ, zero, suc, ◌+◌, ◌*◌, ◌≤◌, ◌<◌, eqb, length, get_or}
+use Rattle.std.specs.Prelude.{◌≡◌, Bool, true, cond, ◌||◌, List, ℕ, zero, suc, ◌+◌, ◌*◌, ◌≤◌, ◌<◌, eqb, length, get_or}
 use Rattle.std.specs.Int.Bits.{bit_and}
 use Rattle.rules.specs.Sizes.{slots, all_slots, mailboxes, places, bells, domains_most, frames_most, turns_most, badge_most}
 use Rattle.rules.specs.declared.Capability.{Capability}

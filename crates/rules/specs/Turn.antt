@@ -1,6 +1,6 @@
 -- Document 01, section 3: a turn. The checks of an operation read the state and give an effect and an answer; the effect is then
 -- performed without any check. Assumes nothing.
-use Rattle.std.specs.Prelude.{Bool, true, false, cond, not, ◌&&◌, ◌||◌, List, [], ◌∷◌, ℕ, zero, suc, ◌+◌, eqb, leb, ltb, length, get_or}
+use Rattle.std.specs.Prelude.{Bool, true, false, cond, not, ◌&&◌, ◌||◌, List, [], ◌∷◌, ℕ, zero, suc, eqb, leb, ltb, length, get_or}
 use Rattle.std.specs.Int.Bits.{bit_and, bit_or}
 use Rattle.rules.specs.Sizes.{slots, frame_words, badge_most}
 use Rattle.rules.specs.State.{State, Places, FRAME, MAILBOX, BELL, READ, WRITE, GRANT, within, slot, room, nothing, no_message, whose, derived_from}

@@ -1,6 +1,7 @@
 // What the written rules (specs/) and the kernel's code share: the plain data of documents 01 and 03, and no function; and the sizes of
 // specs/Sizes, each named here once for the code. Numbers stand for everything, and 0 for nothing: kind 0 is an empty place, source 0 is
 // no source, and source p + 1 is place p.
+#![tactic(auto)]
 
 // Domains are 0 to 15 at most.
 pub const DOMAINS_MOST: u32 = 16;

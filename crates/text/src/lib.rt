@@ -1,9 +1,12 @@
 // Text for standard output, which waits in a buffer that the caller lends. Each function adds to the text and gives the number of bytes that
 // wait after it, which the caller hands to the next one, 0 at first, and in the end to `flush`. A buffer that is full is written first. A
 // write that fails loses its bytes. There is no requirement: a buffer of no bytes, or a number that its length is below, only loses text.
+#![tactic(auto)]
+
 ghost use Rattle.std.specs.Prelude.{◌≤◌};
 
-use libc::STDOUT_FILENO;
+// Standard output's number.
+const STDOUT_FILENO: i32 = 1;
 
 // Writes the bytes that wait.
 pub fn flush(buffer: &[u8], waiting: usize) {

@@ -2,7 +2,9 @@
 ghost use Rattle.io.specs.Counts.{IsPrefixLen};
 
 use crate::{Word, byte, is_none};
-use libc::STDERR_FILENO;
+
+// Standard error's number.
+const STDERR_FILENO: i32 = 2;
 
 // The most bytes of a word that are shown.
 const SHOWN: usize = 40;

@@ -1,6 +1,8 @@
 // Lines and words of a text, by positions in it. Words are separated by blanks: spaces, tabs and carriage returns, so that a line may end
 // as it does elsewhere. A line ends at a line feed, or at the text's end; what `#` begins is no part of it. Nothing is required of a
 // position: past the text's end there are no words.
+#![tactic(auto)]
+
 mod complaint;
 
 ghost use Rattle.std.specs.Prelude.{◌≤◌, ◌<◌, length};
@@ -8,7 +10,7 @@ ghost use Rattle.std.specs.Prelude.{◌≤◌, ◌<◌, length};
 pub use complaint::complain;
 
 // The bytes of a word: from start up to end, which is not one of them. No byte at all: no word.
-#[derive(Drop)]
+#[derive(Clone, Copy)]
 pub struct Word {
     pub start: usize,
     pub end: usize,

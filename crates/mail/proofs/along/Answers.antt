@@ -20,8 +20,9 @@ pub returns-then-seen-eq0 : goal.returns-then-seen-eq0
 returns-then-seen-eq0 c = record { refusal = search checks; capability = never 3 refl; visits = search along_yes }
 
 pub returns : goal.returns
-returns c = record { refusal =
-    search checks;
-      capability = λ _. rw (lt-ltb _ slots c.if-c-ge-SLOTS.false, ← c.see-seen.ensures.0) c.copied.ensures;
-      visits = search along_yes;
-    }
+returns c = record {
+  refusal =
+      search checks;
+  capability = λ _. rw (lt-ltb _ slots c.if-c-ge-SLOTS.false, ← c.see-seen.ensures.0) c.copied.ensures;
+  visits = search along_yes;
+}
