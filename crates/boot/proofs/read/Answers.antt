@@ -5,7 +5,7 @@ use Rattle.boot.proofs.Loading.{right, words_right, booted-refused, booted-short
 use Rattle.boot.proofs.read.Goals as goal
 
 pub returns-then-refusal-ne0 : goal.returns-then-refusal-ne0
-returns-then-refusal-ne0 c = booted-refused c.refusal-refusal.ensures c.if-refusal-ne0.true
+returns-then-refusal-ne0 c = booted-refused c.refusal-refusal.ensures (λ z. omega arith)
 
 pub two-requires : goal.two-requires
 two-requires c =
