@@ -1,4 +1,4 @@
--- `boot::entries`'s loop. Assumes nothing.
+-- `boot::entries`'s loop. The invariant: memory has the entries below i. Assumes nothing.
 use Prim.Native.Nat.{◌≤◌, ◌-◌}
 use Rattle.boot.specs.Booted.{Entered}
 use Rattle.boot.proofs.entries.Given as goal

@@ -1,4 +1,5 @@
--- Answers for `boot::load`. Assumes nothing.
+-- Answers for `boot::load`. In each, as far as the code has come: `t`, the memory with its head; `e`, the memory with its table. Assumes
+-- nothing.
 use Rattle.boot.proofs.Loading.{right, tabled_start, tabled_since, tabled_now, entries-here, entered_none, entered_since, entered_now, entered_all}
 use native.Mathlib.Omega.{arith}
 use Rattle.boot.proofs.load.Goals as goal

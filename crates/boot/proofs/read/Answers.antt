@@ -1,4 +1,4 @@
--- Answers for `boot::read`. Assumes nothing.
+-- Answers for `boot::read`. `fine`: no refusal applies. Assumes nothing.
 use mathlib.Core.Path.{sym, ◌∙◌}
 use native.Mathlib.Omega.{arith}
 use Rattle.boot.proofs.Loading.{right, words_right, booted-refused, booted-short, booted-done}
@@ -9,7 +9,7 @@ returns-then-refusal-ne0 c = booted-refused c.refusal-refusal.ensures (λ z. ome
 
 pub two-requires : goal.two-requires
 two-requires c =
-    let f = right _ (let e = c.refusal-refusal.ensures in let z = c.if-refusal-ne0.false in (sym e ∙ z)) in
+    let f = right _ (sym c.refusal-refusal.ensures ∙ c.if-refusal-ne0.false) in
     omega arith
 
 pub returns-then-mem-words : goal.returns-then-mem-words

@@ -1,4 +1,4 @@
--- `boot::table`'s loop. Assumes nothing.
+-- `boot::table`'s loop. The invariant: memory has the turns below i. Assumes nothing.
 use Prim.Native.Nat.{◌≤◌, ◌-◌}
 use Rattle.boot.specs.Booted.{Tabled}
 use Rattle.boot.proofs.table.Given as goal

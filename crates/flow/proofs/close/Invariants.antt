@@ -1,4 +1,4 @@
--- `flow::close`'s loop. Assumes nothing.
+-- `flow::close`'s loop. The invariant: the rows are transitive over each domain below k. Assumes nothing.
 use Prim.Native.Nat.{◌-◌, ◌≤◌}
 use Rattle.flow.specs.Edges.{Closing}
 use Rattle.flow.proofs.close.Given as goal

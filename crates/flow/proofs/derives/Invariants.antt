@@ -1,4 +1,4 @@
--- `flow::derives`'s loop. Assumes nothing.
+-- `flow::derives`'s loop. The invariant: the rows have the direct flow of the entries below e. Assumes nothing.
 use Prim.Native.Nat.{◌-◌, ◌≤◌}
 use Rattle.flow.specs.Edges.{Source, Added}
 use Rattle.flow.proofs.derives.Given as goal

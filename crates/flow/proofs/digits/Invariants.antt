@@ -1,4 +1,4 @@
--- `flow::digits`'s loop. Assumes nothing.
+-- `flow::digits`'s loop. The invariant: the bytes below x say what they are to. Assumes nothing.
 use mathlib.Core.Path.{◌≡◌}
 use Prim.Native.Nat.{◌-◌, ◌*◌, ◌≤◌}
 use Rattle.flow.specs.Answer.{Filled, InAt}

@@ -1,4 +1,4 @@
--- `flow::hold_all`'s loop. Assumes nothing.
+-- `flow::hold_all`'s loop. The invariant: the bytes below x say what they are to. Assumes nothing.
 use mathlib.Core.Path.{◌≡◌}
 use Prim.Native.Nat.{◌-◌, ◌*◌, ◌≤◌}
 use Rattle.rules.specs.Image.{size_d}

@@ -1,4 +1,4 @@
--- `flow::links`'s loop. Assumes nothing.
+-- `flow::links`'s loop. The invariant: the rows have the direct flow over the objects below o. Assumes nothing.
 use Prim.Native.Nat.{◌-◌, ◌≤◌}
 use Rattle.flow.specs.Edges.{Link, Added}
 use Rattle.flow.proofs.links.Given as goal

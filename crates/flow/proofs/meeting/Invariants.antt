@@ -1,4 +1,4 @@
--- `flow::meeting`'s loop. Assumes nothing.
+-- `flow::meeting`'s loop. The invariant: the mask has those of the rows below a that meet the other. Assumes nothing.
 use Prim.Native.Nat.{◌-◌, ◌≤◌}
 use Rattle.flow.specs.Masks.{Meeting}
 use Rattle.flow.proofs.meeting.Given as goal

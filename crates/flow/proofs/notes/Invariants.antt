@@ -1,4 +1,4 @@
--- `flow::notes`'s loop. Assumes nothing.
+-- `flow::notes`'s loop. The invariant: the cells have the entries below i. Assumes nothing.
 use Prim.Native.Nat.{◌-◌, ◌≤◌}
 use Rattle.flow.specs.Cells.{Noted}
 use Rattle.flow.proofs.notes.Given as goal

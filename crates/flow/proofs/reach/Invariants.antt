@@ -1,4 +1,4 @@
--- `flow::reach`'s loop. Assumes nothing.
+-- `flow::reach`'s loop. The measure is what the sum before the last round is below its greatest. Assumes nothing.
 use Prim.Native.Nat.{◌-◌, ◌*◌, ◌≤◌}
 use Rattle.flow.proofs.Reaching.{Passing}
 use Rattle.flow.proofs.reach.Given as goal

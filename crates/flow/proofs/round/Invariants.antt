@@ -1,4 +1,4 @@
--- `flow::round`'s loop. Assumes nothing.
+-- `flow::round`'s loop. The invariant: the mailboxes below m were gone through. Assumes nothing.
 use Prim.Native.Nat.{◌-◌, ◌≤◌}
 use Rattle.rules.specs.Sizes.{mailboxes}
 use Rattle.flow.specs.Cells.{Passed}

@@ -1,4 +1,4 @@
--- `flow::spread`'s loop. Assumes nothing.
+-- `flow::spread`'s loop. The invariant: the rows below a have taken the mask in where they are chosen. Assumes nothing.
 use Prim.Native.Nat.{◌-◌, ◌≤◌}
 use Rattle.flow.specs.Masks.{Spread}
 use Rattle.flow.proofs.spread.Given as goal

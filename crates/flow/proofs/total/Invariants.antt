@@ -1,4 +1,4 @@
--- `flow::total`'s loop. Assumes nothing.
+-- `flow::total`'s loop. The invariant: t is the sum of the rows below a. Assumes nothing.
 use mathlib.Core.Path.{◌≡◌}
 use Prim.Native.Nat.{◌-◌, ◌*◌, ◌≤◌}
 use Rattle.flow.specs.Masks.{sums}

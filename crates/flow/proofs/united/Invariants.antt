@@ -1,4 +1,4 @@
--- `flow::united`'s loop. Assumes nothing.
+-- `flow::united`'s loop. The invariant: the mask has what those of the cells below k that are chosen have. Assumes nothing.
 use Prim.Native.Nat.{◌-◌, ◌≤◌}
 use Rattle.flow.specs.Masks.{United}
 use Rattle.flow.proofs.united.Given as goal

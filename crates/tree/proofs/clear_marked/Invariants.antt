@@ -1,4 +1,4 @@
--- `tree::clear_marked`'s loop. Assumes nothing.
+-- `tree::clear_marked`'s loop. The invariant: each place below q that is to be empty is, at a visit to each. Assumes nothing.
 use mathlib.Core.Path.{◌≡◌}
 use Prim.Native.Nat.{◌+◌, ◌-◌, ◌≤◌}
 use Rattle.rules.specs.Sizes.{places}

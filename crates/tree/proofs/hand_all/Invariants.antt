@@ -1,4 +1,4 @@
--- `tree::hand_all`'s loop. Assumes nothing.
+-- `tree::hand_all`'s loop. The invariant: each place below child has been visited once and has its new source. Assumes nothing.
 use mathlib.Core.Path.{◌≡◌}
 use Prim.Native.Nat.{◌+◌, ◌-◌, ◌≤◌}
 use Rattle.rules.specs.Sizes.{places}

@@ -1,4 +1,5 @@
--- `tree::mark_derived`'s loop. Assumes nothing.
+-- `tree::mark_derived`'s loop. The invariant: there were no more sweeps than marks before the last of them, which the measure counts up to
+-- the number of places. Assumes nothing.
 use Prim.Native.Nat.{◌+◌, ◌-◌, ◌*◌, ◌≤◌}
 use Rattle.rules.specs.Sizes.{places}
 use Rattle.tree.specs.Tree.{places_of}

@@ -1,4 +1,4 @@
--- `write::count`'s loop. Assumes nothing.
+-- `write::count`'s loop. The invariant: total is how many places below p hold a capability. Assumes nothing.
 use mathlib.Core.Path.{◌≡◌}
 use Prim.Native.Nat.{◌≤◌, ◌-◌}
 use lib.ListN.{length}

@@ -1,4 +1,4 @@
--- `write::entries`'s loop. Assumes nothing.
+-- `write::entries`'s loop. The invariant: the entries of the places below q are written. Assumes nothing.
 use Prim.Native.Nat.{◌≤◌, ◌-◌}
 use Rattle.rules.specs.Image.{occupied, entries_for}
 use Rattle.layout.specs.Layout.{state_of}

@@ -1,4 +1,4 @@
--- `write::table`'s loop. Assumes nothing.
+-- `write::table`'s loop. The invariant: the first k turns are written. Assumes nothing.
 use mathlib.Core.Path.{◌≡◌}
 use Prim.Native.Nat.{◌+◌, ◌-◌, ◌≤◌}
 use lib.ListN.{take}

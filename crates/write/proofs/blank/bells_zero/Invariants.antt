@@ -1,4 +1,4 @@
--- `write::blank::bells_zero`'s loop. Assumes nothing.
+-- `write::blank::bells_zero`'s loop. The invariant: the bells below b are 0. Assumes nothing.
 use mathlib.Core.Path.{◌≡◌}
 use mathlib.Core.Bool.{true}
 use Prim.Native.Nat.{◌≤◌, ◌-◌}

@@ -1,4 +1,4 @@
--- `write::blank::frame_zero`'s loop. Assumes nothing.
+-- `write::blank::frame_zero`'s loop. The invariant: the words below w are 0. Assumes nothing.
 use mathlib.Core.Path.{◌≡◌}
 use mathlib.Core.Bool.{true}
 use Prim.Native.Nat.{◌≤◌, ◌-◌}

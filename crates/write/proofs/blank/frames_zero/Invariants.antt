@@ -1,4 +1,4 @@
--- `write::blank::frames_zero`'s loop. Assumes nothing.
+-- `write::blank::frames_zero`'s loop. The invariant: the frames below f are all 0. Assumes nothing.
 use mathlib.Core.Path.{◌≡◌}
 use mathlib.Core.Bool.{true}
 use Prim.Native.Nat.{◌≤◌, ◌-◌}

@@ -1,4 +1,4 @@
--- `write::blank::mailboxes_empty`'s loop. Assumes nothing.
+-- `write::blank::mailboxes_empty`'s loop. The invariant: the mailboxes below i are empty. Assumes nothing.
 use mathlib.Core.Path.{◌≡◌}
 use mathlib.Core.Bool.{true}
 use Prim.Native.Nat.{◌≤◌, ◌-◌}

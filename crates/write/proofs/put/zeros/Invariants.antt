@@ -1,4 +1,4 @@
--- `write::put::zeros`'s loop. Assumes nothing.
+-- `write::put::zeros`'s loop. The invariant: k bytes are written. Assumes nothing.
 use mathlib.Core.Path.{◌≡◌}
 use Prim.Native.Nat.{◌+◌, ◌-◌, ◌≤◌}
 use lib.ListN.{replicate}
