@@ -15,7 +15,7 @@ two-requires c =
 pub returns-then-mem-words : goal.returns-then-mem-words
 returns-then-mem-words c =
     let fine = sym c.refusal-refusal.ensures ∙ c.if-refusal-ne0.false in
-    booted-short fine (words_right _ fine c.two.ensures c.words-words.ensures) c.if-mem-words.true
+    booted-short fine (words_right _ fine c.two.ensures c.words-words.ensures) (omega arith)
 
 pub load-requires : goal.load-requires
 load-requires c =

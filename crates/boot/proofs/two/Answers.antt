@@ -4,7 +4,7 @@ use native.Mathlib.Omega.{arith}
 use Rattle.boot.proofs.two.Goals as goal
 
 pub overflow_mul-result : goal.overflow_mul-result
-overflow_mul-result c = omega (arith, c.shared_slice_known-1.given c.args.i)
+overflow_mul-result c = omega (arith, c.type_inv.image c.args.i)
 
 pub overflow_add-result-2 : goal.overflow_add-result-2
-overflow_add-result-2 c = omega (arith, c.shared_slice_known-2-1.given c.args.i, c.shared_slice_known-2-1.given (c.args.i + 1))
+overflow_add-result-2 c = omega (arith, c.type_inv.image c.args.i, c.type_inv.image (c.args.i + 1))

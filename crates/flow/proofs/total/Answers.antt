@@ -8,10 +8,10 @@ pub loop-a-init : goal.loop-a-init
 loop-a-init c = (search rules, search rules, sums_none _)
 
 pub overflow_add-t : goal.overflow_add-t
-overflow_add-t c = omega (arith, c.shared_slice_known-1.given c.loop-a.a)
+overflow_add-t c = omega (arith, c.type_inv.rows c.loop-a.a)
 
 pub loop-a-preserved : goal.loop-a-preserved
-loop-a-preserved c = (search rules, omega (arith, c.shared_slice_known-1.given c.loop-a.a), search (rules, sums_more))
+loop-a-preserved c = (search rules, omega (arith, c.type_inv.rows c.loop-a.a), search (rules, sums_more))
 
 pub returns : goal.returns
 returns c = (search (rules, sums_end), search rules)

@@ -4,4 +4,4 @@ use native.Mathlib.Omega.{arith}
 use Rattle.image.proofs.byte.Goals as goal
 
 pub returns : goal.returns
-returns c = (refl, omega (arith, c.shared_slice_known-1.given c.args.i))
+returns c = (refl, omega (arith, c.type_inv.image c.args.i))

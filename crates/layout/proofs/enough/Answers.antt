@@ -8,10 +8,10 @@ pub returns-then-mem-lt-FRAMES : goal.returns-then-mem-lt-FRAMES
 returns-then-mem-lt-FRAMES c = search (rules, short_law)
 
 pub overflow_mul-result : goal.overflow_mul-result
-overflow_mul-result c = omega (arith, c.shared_slice_known-1.given 1)
+overflow_mul-result c = omega (arith, c.type_inv.mem 1)
 
 pub overflow_add-result : goal.overflow_add-result
-overflow_add-result c = omega (arith, c.shared_slice_known-1.given 1)
+overflow_add-result c = omega (arith, c.type_inv.mem 1)
 
 pub returns : goal.returns
 returns c = enough_law c.args.mem.now

@@ -1,5 +1,8 @@
 -- Answers for `look::any_slot`. Assumes nothing.
 use mathlib.Core.Path.{refl}
+use Prim.Native.Nat.{◌≤◌}
+use native.Mathlib.Omega.{arith}
+use Rattle.rules.specs.Sizes.{slots}
 use Rattle.look.proofs.Checks.{checks, never}
 use Rattle.rules.specs.Turn.{any_slot_refusal}
 use Rattle.look.specs.Looks.{seen}
@@ -8,7 +11,9 @@ use Rattle.look.proofs.any_slot.Goals as goal
 
 pub returns-then-x-ge-SLOTS : goal.returns-then-x-ge-SLOTS
 unfolding any_slot_refusal
-returns-then-x-ge-SLOTS c = record { refusal = search checks; capability = never 2 refl; slot = search checks; visits = search seen_no }
+returns-then-x-ge-SLOTS c =
+    let h : slots ≤ c.args.x = omega arith in
+    record { refusal = search checks; capability = never 2 refl; slot = search checks; visits = search seen_no }
 
 pub returns-then-c-eq0 : goal.returns-then-c-eq0
 unfolding any_slot_refusal seen

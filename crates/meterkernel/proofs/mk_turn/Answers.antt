@@ -1,6 +1,5 @@
 -- Answers for `meterkernel::mk_turn`. Assumes nothing.
 use borrow.Author.Rules.{rules}
-use borrow.Author.Tests.{not-false}
 use Rattle.meterkernel.proofs.Calls.{called-op, called-answer, called_memory, called-turn}
 use Rattle.meterkernel.proofs.mk_turn.Goals as goal
 
@@ -11,7 +10,7 @@ pub returns-then-answer-lt-ANSWER : goal.returns-then-answer-lt-ANSWER
 returns-then-answer-lt-ANSWER c = called-answer (search rules)
 
 pub returns-then-not-enough : goal.returns-then-not-enough
-returns-then-not-enough c = called_memory c.enough.ensures (c.if-not-enough.true)
+returns-then-not-enough c = called_memory c.enough.ensures c.if-not-enough.true
 
 pub returns : goal.returns
-returns c = search (rules, called-turn, not-false)
+returns c = search (rules, called-turn)

@@ -1,4 +1,4 @@
--- `tree::sweep`'s loop. The invariant: the places below to have been visited once each. Assumes nothing.
+-- `tree::sweep`'s loop. The invariant: the places below `to` have been visited once each. Assumes nothing.
 use mathlib.Core.Path.{◌≡◌}
 use Prim.Native.Nat.{◌+◌, ◌-◌, ◌≤◌}
 use Rattle.rules.specs.Sizes.{places}
