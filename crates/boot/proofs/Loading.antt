@@ -3,17 +3,17 @@
 use mathlib.Core.Path.{◌≡◌, refl, sym, ap, ◌∙◌, subst}
 use mathlib.Core.List.Memᴰ
 use mathlib.Core.List.{List, [], ◌∷◌, ◌++◌, Memᴰ}
-use mathlib.Core.Bool.{Bool, true, false, cond, ◌&&◌}
+use mathlib.Core.Bool.{true}
 use Prim.Native.Nat.{ℕ, zero, suc, ◌+◌, ◌-◌, ◌*◌, ◌/◌, ◌≤◌, ◌<◌}
 use native.Mathlib.Omega.{arith}
-use lib.Dec.{eqb, ltb}
+use lib.Dec.{ltb}
 use lib.ListN.{length, get_or, drop, set as store, length-set, length-take, length-drop}
 use lib.Seq.{get_or-set_other, get_or-take, get_or-drop}
-use borrow.Author.Tests.{ltb-true, eqb-true}
+use borrow.Author.Tests.{ltb-true}
 use Rattle.rules.specs.Sizes.{turns_most, places}
-use Rattle.rules.specs.State.{State, Places, slot, Section4, Formed}
+use Rattle.rules.specs.State.{State, Places, Section4, Formed}
 use Rattle.rules.specs.Turn.{set, with_places}
-use Rattle.rules.specs.Image.{Bytes, Entry, byte, header_bytes, entry_bytes, size_d, size_t, size_c, size_f, padded, entries_at, length_for, table_of, entry_at, entries_from, image_of, place_of, no_domain, sourceless, source_of, capability_given, given, boot, rising, all, refusal_of, accepted, read_as, read as readImage}
+use Rattle.rules.specs.Image.{Bytes, byte, header_bytes, entry_bytes, size_d, size_t, size_c, size_f, padded, entries_at, length_for, table_of, entry_at, entries_from, image_of, place_of, capability_given, given, boot, rising, all, refusal_of, accepted, read_as, read as readImage}
 use Rattle.rules.specs.Worked.{bytes as worked}
 use Rattle.rules.specs.declared.Capability.{Capability}
 use Rattle.rules.proofs.Laws.{both, passes}
@@ -22,7 +22,7 @@ use Rattle.rules.proofs.Bootable.{boot-formed, boot-section4}
 use Rattle.rules.proofs.Worked.{bytes-accepted}
 use Rattle.layout.specs.Layout.{state_of, frames_at, words_for, words_of, Enough}
 use Rattle.layout.specs.Stored.{Stored, placed, Cleared, headed, turning}
-use Rattle.layout.proofs.Cells.{words_some}
+use Rattle.layout.proofs.Cells.{words_in}
 use Rattle.layout.proofs.Stores.{place_law, cleared_none, cleared_more, cleared_all}
 use Rattle.turn.specs.Turned.{Good}
 use Rattle.image.specs.declared.Fields.{Fields}
@@ -169,34 +169,18 @@ entered_enough {b} e h = let same = ap (λ x. x.frames) e.state ∙ bare-frames 
 
 -- ---- the needs of the code
 
--- the source of an entry: none, or one
-pub source_none : (e : Entry) → e.source_domain ≡ no_domain → e.source_slot ≡ 0 → 0 ≡ source_of e
-unfolding source_of sourceless
-source_none e h g = sym (ap (λ d. cond (eqb d no_domain && eqb e.source_slot 0) 0 (suc (slot e.source_domain e.source_slot))) h ∙ ap (λ x. cond (eqb x 0) 0 (suc (slot e.source_domain e.source_slot))) g)
+-- one turn more, as it stands in the table
+pub tabled_next : {b m o n table : List ℕ} {i v : ℕ} → n ≡ turning i v o → frames_at ≤ length o → FormRight b → table ≡ table_of b → i < length table
+    → v ≡ get_or table i 0 → Tabled b m o i → Tabled b m n (i + 1)
+tabled_next {b} {m} {o} {n} {table} {i} {v} e l f z h g t =
+    let w = table-long b f in
+    let k : i < size_t b = omega (arith, ap length z) in
+    let turns = f.turns.1 in
+    rw e (tabled_turn l (omega arith) (g ∙ (ap (λ x. get_or x i 0) z ∙ table_at b i k)) t)
 
-pub source_some : (e : Entry) → (e.source_domain ≡ no_domain → e.source_slot ≡ 0 → ⊥) → e.source_domain * 64 + e.source_slot + 1 ≡ source_of e
-unfolding source_of sourceless
-source_some e h = go (eqb e.source_domain no_domain) (eqb e.source_slot 0) refl refl
-  where
-    go : (x y : Bool) → eqb e.source_domain no_domain ≡ x → eqb e.source_slot 0 ≡ y
-        → e.source_domain * 64 + e.source_slot + 1 ≡ cond (x && y) 0 (suc (slot e.source_domain e.source_slot))
-    go true true a b = absurd (h (eqb-true _ _ a) (eqb-true _ _ b))
-    go true false a b = omega arith
-    go false y a b = omega arith
-
--- the capability of an entry, whose source the code found
-pub capability_some : (e : Entry) {s : ℕ} → s ≡ source_of e
-    → ◌≡◌ {A = Capability} record { kind = e.kind; rights = e.rights; object = e.object; badge = e.badge; source = s } (capability_given e)
-unfolding capability_given
-capability_some e h = ap (λ x. record { kind = e.kind; rights = e.rights; object = e.object; badge = e.badge; source = x }) h
-
--- the table of turns
-pub tabled_next : {b m o n : List ℕ} {i v : ℕ} → n ≡ turning i v o → frames_at ≤ length o → i < turns_most → v ≡ byte b (header_bytes + i)
-    → Tabled b m o i → Tabled b m n (i + 1)
-tabled_next {b} {m} {o} {n} {i} {v} e l h g t = subst (λ x. Tabled b m x (i + 1)) (sym e) (tabled_turn l h g t)
-
-pub tabled_end : {b m o : List ℕ} {i t : ℕ} → i ≤ t → t ≤ i → t ≡ size_t b → Tabled b m o i → Tabled b m o (size_t b)
-tabled_end {b} {m} {o} {i} {t} h g e = subst (Tabled b m o) (let z : i ≡ size_t b = omega arith in z)
+-- the turns that the table has
+pub turns-low : {b table : List ℕ} → FormRight b → table ≡ table_of b → (length table ≡ size_t b) × (size_t b ≤ turns_most)
+turns-low {b} {table} f z = (ap length z ∙ table-long b f, f.turns.1)
 
 -- cleared memory, with the head that the code wrote
 pub tabled_start : {b m o n : List ℕ} {w d f t : ℕ} → w ≡ words_for (size_f b) → w ≤ length m → Cleared w m o → d ≡ size_d b → f ≡ size_f b → t ≡ size_t b
@@ -206,59 +190,30 @@ tabled_start {b} {m} {o} {n} {w} {d} {f} {t} e l c hd hf ht g =
     let k = c.long in
     subst (λ x. Tabled b m x 0) (sym z) (tabled_head (omega arith) (subst (λ x. Cleared x m o) e c))
 
--- where the entries begin: not past byte 72
-pub entries-low : {b : List ℕ} → FormRight b → entries_at (size_t b) ≤ 72
-unfolding entries_at padded
-entries-low f = let g = f.turns.1 in omega arith
-
-pub entries-here : (b : List ℕ) {t : ℕ} → t ≡ size_t b → 8 + (t + 3) / 4 * 4 ≡ entries_at (size_t b)
-unfolding entries_at padded
-entries-here b e = omega arith
-
--- entry i is inside the image
-pub entry-inside : (b : List ℕ) {i at : ℕ} → refusal_of b ≡ 0 → i < size_c b → at ≡ entries_at (size_t b) + entry_bytes * i → at + 12 ≤ length b
-unfolding entries_at padded
-entry-inside b h l e = let w = whole b (right b h) in omega arith
-
 -- what was fetched for entry i: its place, and what becomes of memory when the capability stands there
-module _ {b : List ℕ} {i at : ℕ} {e : Fields} (h : refusal_of b ≡ 0) (l : i < size_c b) (z : at ≡ entries_at (size_t b) + entry_bytes * i) (f : Fetched b at e) where
-  fetched : said e ≡ entry_at b (entries_at (size_t b) + entry_bytes * i)
-  fetched = f.exact ∙ ap (entry_at b) z
-
-  pub fetched_place : e.domain * 64 + e.slot < places
+module _ {b : List ℕ} {i p : ℕ} {e : Fields} (h : refusal_of b ≡ 0) (l : i < size_c b) (f : Fetched b (entries_at (size_t b) + entry_bytes * i) e) (q : p ≡ place_of (said e)) where
+  pub fetched_place : p < places
   fetched_place =
       let r = right b h in
       let g = entry_fine b r i l in
-      let d = ap (λ x. x.domain) fetched in
-      let s = ap (λ x. x.slot) fetched in
+      let x = ap (λ x. x.domain) f.exact in
+      let y = ap (λ x. x.slot) f.exact in
       let k = g.domain in
       let j = g.slot in
       let n = r.domains.1 in
       omega arith
 
-  pub fetched_entered : {m n : List ℕ} {c : Capability} → c ≡ capability_given (said e) → Entered b m m i → Stored (e.domain * 64 + e.slot < places) (placed (e.domain * 64 + e.slot) c) m n
-      → Entered b m n (i + 1)
-  fetched_entered g t s = entered_more (right b h) l t (ap place_of fetched) (g ∙ ap capability_given fetched) s
-
-pub entered_end : {b m o : List ℕ} {i n : ℕ} → i ≤ n → n ≤ i → n ≡ size_c b → Entered b m o i → Entered b m o (size_c b)
-entered_end {b} {m} {o} {i} {n} h g e = subst (Entered b m o) (let z : i ≡ size_c b = omega arith in z)
+  pub fetched_entered : {m o n : List ℕ} {c : Capability} → c ≡ capability_given (said e) → Entered b m o i → Stored (p < places) (placed p c) o n → Entered b m n (i + 1)
+  fetched_entered g t s = entered_more (right b h) l t (q ∙ ap place_of f.exact) (g ∙ ap capability_given f.exact) s
 
 -- the words that the code asks for
 pub words_right : (b : List ℕ) {f w : ℕ} → refusal_of b ≡ 0 → f ≡ size_f b → w ≡ words_of f → w ≡ words_for (size_f b)
 words_right b {f} {w} h e g =
     let r = (right b h).frames in
-    let k = words_some (size_f b) (λ z. omega arith) r.1 in
+    let k = words_in (size_f b) (omega arith) r.1 in
     g ∙ (ap words_of e ∙ sym k)
 
 -- ---- the answers
-
-pub booted-refused : {b m : List ℕ} {r : ℕ} → r ≡ refusal_of b → (r ≡ 0 → ⊥) → Booted b m r m
-booted-refused e h =
-    record {
-      refused = λ n. (e, refl);
-      short = λ z. absurd (h (e ∙ z));
-      accepted = λ z. absurd (h (e ∙ z));
-    }
 
 pub booted-short : {b m : List ℕ} {w : ℕ} → refusal_of b ≡ 0 → w ≡ words_for (size_f b) → length m < w → Booted b m 29 m
 booted-short z e l =

@@ -1,112 +1,48 @@
-// The image's bytes, document 01, section 5, from the book.
-ghost use Rattle.std.specs.Prelude.{◌+◌, ◌*◌, ◌≤◌, ◌<◌};
+// The image's bytes, document 01, section 5, from the book, by the functions that the kernel writes an image with.
+ghost use Rattle.std.specs.Prelude.{◌≤◌};
 
-use crate::book;
-use crate::book::Gift;
+use crate::book::{Book, count};
+use crate::gift::Gift;
+use image::{ENTRY, HEADER, Header, IMAGE_MOST};
+use rules::Capability;
 
-// The longest image.
-pub const IMAGE: usize = 12360;
+// The entry of a gift.
+fn entry(gift: &Gift<'_>) -> [u8; ENTRY] {
+    let capability = Capability {
+        kind: gift.kind.number(),
+        rights: gift.rights.0,
+        object: gift.object,
+        badge: gift.badge.unwrap_or(0),
+        source: gift.source.map_or(0, |source| source.place.number() + 1),
+    };
+    write::entry(gift.place.number(), capability)
+}
 
-// The bytes of the header and of an entry.
-const HEADER: usize = 8;
-
-const ENTRY: usize = 12;
-
-// The source's domain where there is no source.
-const NO_SOURCE: usize = 255;
-
-// Byte i becomes v.
-fn byte(image: &mut [u8], i: usize, v: usize) {
-    if i < image.len() {
-        image[i] = (v % 256) as u8;
+// The header.
+fn header(book: &Book<'_>) -> Header
+    ensures { result.turns ≤ 64 }
+{
+    Header {
+        domains: count(&book.domains) as u32,
+        turns: count(&book.turns) as u32,
+        entries: count(&book.gifts) as u32,
+        frames: book.frames.unwrap_or(0),
     }
 }
 
-// The two bytes at i become v, high byte first.
-fn two(image: &mut [u8], i: usize, v: usize)
-    requires { i < 65536 }
-{
-    byte(image, i, v / 256);
-    byte(image, i + 1, v);
-}
-
-// The bytes of a source at i.
-fn source(image: &mut [u8], i: usize, source: usize)
-    requires { i < 65536 }
-{
-    if source == 0 {
-        byte(image, i, NO_SOURCE);
-        return;
+// The whole image, at the beginning of a space of zeros.
+pub fn image<'a>(book: &Book<'_>, space: &'a mut [u8; IMAGE_MOST]) -> &'a [u8] {
+    let header = header(book);
+    let entries_at = header.entries_at();
+    let (head, rest) = space.split_at_mut(HEADER);
+    head.copy_from_slice(&write::header(header));
+    let (turns, entries) = rest.split_at_mut(entries_at - HEADER);
+    for (room, domain) in turns.iter_mut().zip(book.turns.iter().flatten()) {
+        *room = *domain;
     }
-    byte(image, i, (source - 1) / book::SLOTS);
-    byte(image, i + 1, (source - 1) % book::SLOTS);
-}
-
-// The entry at i of place p.
-fn entry(image: &mut [u8], i: usize, p: usize, gift: Gift)
-    requires { i < 65000 }
-{
-    byte(image, i, p / book::SLOTS);
-    byte(image, i + 1, p % book::SLOTS);
-    byte(image, i + 2, gift.kind);
-    byte(image, i + 3, gift.rights);
-    two(image, i + 4, gift.object);
-    two(image, i + 6, gift.badge);
-    source(image, i + 8, gift.source);
-}
-
-// The entry at i of place p, where a line gives it one; gives where the next entry begins.
-fn some_entry(image: &mut [u8], i: usize, p: usize, gift: Gift) -> usize
-    requires { i < 65000 }
-    ensures { (i ≤ result) × (result ≤ i + 12) }
-{
-    if gift.line == 0 {
-        return i;
+    let rooms = entries.chunks_exact_mut(ENTRY);
+    for (room, gift) in rooms.zip(book.gifts.iter().flatten()) {
+        room.copy_from_slice(&entry(gift));
     }
-    entry(image, i, p, gift);
-    i + ENTRY
-}
-
-// The entries, from i on; gives where they end.
-fn entries(image: &mut [u8], i: usize, book: &[usize]) -> usize
-    requires { i ≤ 72 }
-    ensures { (i ≤ result) × (result ≤ i + 12288) }
-{
-    let mut at = i;
-    for p in 0..book::PLACES {
-        at = some_entry(image, at, p, book::given(book, p));
-    }
-    at
-}
-
-// The turns.
-fn turns(image: &mut [u8], book: &[usize]) {
-    for i in 0..book::TURNS {
-        byte(image, HEADER + i, book::get(book, book::turn_at(i)));
-    }
-}
-
-// Where the entries begin: behind the turns and what fills up their last four bytes.
-fn entries_at(turns: usize) -> usize
-    ensures { result ≤ 72 }
-{
-    if turns <= book::TURNS {
-        HEADER + (turns + 3) / 4 * 4
-    } else {
-        HEADER
-    }
-}
-
-// The whole image into a slice of zeros; gives its length.
-pub fn all(image: &mut [u8], book: &[usize]) -> usize
-    ensures { result ≤ 12360 }
-{
-    turns(image, book);
-    let begin = entries_at(book::get(book, book::TURN_COUNT));
-    let end = entries(image, begin, book);
-    byte(image, 0, book::get(book, book::DOMAIN_COUNT));
-    byte(image, 1, book::get(book, book::TURN_COUNT));
-    two(image, 2, (end - begin) / ENTRY);
-    two(image, 4, book::get(book, book::FRAME_COUNT));
-    end
+    &space[..entries_at + ENTRY * count(&book.gifts)]
 }

@@ -5,59 +5,48 @@
 #![tactic(auto)]
 
 mod book;
+mod complaint;
 mod emit;
+mod gift;
+mod line;
 mod lines;
-mod names;
 mod sources;
-mod wrong;
 
-// The numbers of standard input, output and error.
+use book::Book;
+use complaint::{Complaint, Fault};
+
+// The numbers of standard input and output.
 const STDIN_FILENO: i32 = 0;
 
 const STDOUT_FILENO: i32 = 1;
 
-const STDERR_FILENO: i32 = 2;
-
-// The longest text, and one byte more, which tells a longer one.
+// The longest text.
 const TEXT: usize = 262144;
 
-const SPACE: usize = 262145;
-
 // Writes an image, where it is one.
-fn write(image: &[u8]) {
-    let refusal = image::refusal(image);
-    if refusal == 0 {
-        io::write_all(STDOUT_FILENO, image);
-        return;
-    }
-    io::write_all(STDERR_FILENO, b"the image is refused with ");
-    io::print_decimal(STDERR_FILENO, refusal as u64);
-    io::write_all(STDERR_FILENO, b"\n");
+fn write(image: &[u8]) -> Result<(), Fault> {
+    image::accept(image).map_err(Fault::RefusedImage)?;
+    io::write_all(STDOUT_FILENO, image);
+    Ok(())
 }
 
-// Writes what the book says.
-fn finish(book: &[usize]) {
-    let mut image = [0u8; emit::IMAGE];
-    let length = emit::all(&mut image, book);
-    write(&image[..length]);
-}
-
-// Reads the text and writes the image.
-fn compose(text: &[u8]) {
-    let mut book = [0usize; book::SIZE];
-    lines::all(text, &mut book);
-    sources::judge(text, &mut book);
-    if !wrong::any(&book) {
-        finish(&book);
+// Writes the image that a text says.
+fn compose(text: &[u8]) -> Result<(), Complaint<'_>> {
+    if TEXT < text.len() {
+        return Err(Fault::LongText.into());
     }
+    let book = Book::read(text)?;
+    book.judge()?;
+    let mut space = [0u8; image::IMAGE_MOST];
+    write(emit::image(&book, &mut space))?;
+    Ok(())
 }
 
 fn main() {
-    let mut space = [0u8; SPACE];
+    // One byte more than the longest text has tells a longer one.
+    let mut space = [0u8; TEXT + 1];
     let length = io::read_full(STDIN_FILENO, &mut space);
-    if TEXT < length {
-        io::write_all(STDERR_FILENO, b"the text is longer than 262144 bytes\n");
-        return;
+    if let Err(complaint) = compose(&space[..length]) {
+        complaint.say();
     }
-    compose(&space[..length]);
 }

@@ -1,96 +1,72 @@
 // What can only be judged at the end of the text: whether there is what an image must have, and whether the sources are as document 01,
 // section 4, says. The places are gone through in rising order.
-use crate::book::Gift;
-use crate::{book, wrong};
+use crate::book::{Book, PLACES};
+use crate::complaint::{Complaint, Fault};
+use crate::gift::{Gift, Place, Source};
+use std::iter;
 
-// Frames, a domain and turns.
-fn sizes(text: &[u8], book: &mut [usize]) {
-    let none = book::get(book, book::FRAME_COUNT) == 0;
-    wrong::whole(text, book, none, b"there is no line frames\n");
-    let none = book::get(book, book::DOMAIN_COUNT) == 0;
-    wrong::whole(text, book, none, b"there is no line domain\n");
-    let none = book::get(book, book::TURN_COUNT) == 0;
-    wrong::whole(text, book, none, b"there is no line turns\n");
-}
-
-// The place of a source number, where 0 stands for none.
-fn place_of(source: usize) -> usize {
-    if 0 < source { source - 1 } else { book::PLACES }
-}
-
-// Whether following sources from place p comes back to it.
-fn comes_back(book: &[usize], p: usize) -> bool {
-    let mut q = p;
-    for step in 0..book::PLACES {
-        q = place_of(book::given(book, q).source);
-        if q == p {
-            return true;
+impl<'a> Book<'a> {
+    // Frames, a domain and turns.
+    fn judge_sizes(&self) -> Result<(), Fault> {
+        if self.frames.is_none() {
+            return Err(Fault::NoLineFrames);
         }
+        if self.domains.iter().all(|domain| domain.is_none()) {
+            return Err(Fault::NoLineDomain);
+        }
+        if self.turns.iter().all(|turn| turn.is_none()) {
+            return Err(Fault::NoLineTurns);
+        }
+        Ok(())
     }
-    false
-}
 
-// Where `is` says so, the source of a gift is wrong.
-fn bad(text: &[u8], book: &mut [usize], is: bool, gift: Gift, message: &[u8]) {
-    let named = gift.named;
-    wrong::elsewhere(text, book, is, gift.line, named, message);
-}
-
-// The source is given by a line, for the same object.
-fn there(text: &[u8], book: &mut [usize], gift: Gift, from: Gift) {
-    let none = from.line == 0;
-    bad(text, book, none, gift, b"no line gives this source\n");
-    let other = (gift.kind != from.kind) | (gift.object != from.object);
-    bad(
-        text,
-        book,
-        other,
-        gift,
-        b"this source is for another object\n",
-    );
-}
-
-// The source has the rights, and the badge if it has one.
-fn enough(text: &[u8], book: &mut [usize], gift: Gift, from: Gift) {
-    let more = gift.rights & from.rights != gift.rights;
-    bad(
-        text,
-        book,
-        more,
-        gift,
-        b"this source lacks a right that is given here\n",
-    );
-    let badge = (0 < from.badge) & (gift.badge != from.badge);
-    bad(text, book, badge, gift, b"this source has another badge\n");
-}
-
-// The source of place p, where it has one.
-fn source(text: &[u8], book: &mut [usize], p: usize) {
-    let gift = book::given(book, p);
-    if 0 < gift.source {
-        let from = book::given(book, place_of(gift.source));
-        there(text, book, gift, from);
-        enough(text, book, gift, from);
-        let back = comes_back(book, p);
-        bad(
-            text,
-            book,
-            back,
-            gift,
-            b"following the sources comes back here\n",
-        );
+    // The place from which another one comes.
+    fn source(&self, place: Place) -> Option<Place> {
+        Some(self.given(place)?.source?.place)
     }
-}
 
-// The sources of all places.
-fn sources(text: &[u8], book: &mut [usize]) {
-    for p in 0..book::PLACES {
-        source(text, book, p);
+    // Whether following sources from a place comes back to it.
+    fn comes_back(&self, place: Place) -> bool {
+        iter::successors(self.source(place), |p| self.source(*p))
+            .take(PLACES)
+            .any(|p| p == place)
     }
-}
 
-// All that is judged at the end.
-pub fn judge(text: &[u8], book: &mut [usize]) {
-    sizes(text, book);
-    sources(text, book);
+    // The source is given by a line, for the same object, with these rights and with its badge if it has one; and following the sources ends.
+    fn judge_source(&self, gift: &Gift<'a>, source: Place) -> Result<(), Fault> {
+        let from = self.given(source).ok_or(Fault::NoSource)?;
+        if gift.kind != from.kind || gift.object != from.object {
+            return Err(Fault::OtherObject);
+        }
+        if !from.rights.have(gift.rights) {
+            return Err(Fault::MoreRights);
+        }
+        if from.badge.is_some() && gift.badge != from.badge {
+            return Err(Fault::OtherBadge);
+        }
+        if self.comes_back(gift.place) {
+            return Err(Fault::EndlessSource);
+        }
+        Ok(())
+    }
+
+    // The sources of all places.
+    fn judge_sources(&self) -> Result<(), Complaint<'a>> {
+        for gift in self.gifts.iter().flatten() {
+            if let Some(Source { place, named }) = gift.source {
+                self.judge_source(gift, place).map_err(|fault| Complaint {
+                    line: Some(gift.line),
+                    word: Some(named),
+                    fault,
+                })?;
+            }
+        }
+        Ok(())
+    }
+
+    // All that is judged at the end.
+    pub fn judge(&self) -> Result<(), Complaint<'a>> {
+        self.judge_sizes()?;
+        self.judge_sources()
+    }
 }

@@ -1,32 +1,39 @@
 -- The laws of the visits of DERIVE's checks, and how many any operation's are at most. Assumes nothing.
-use mathlib.Core.Path.{◌≡◌, sym, ◌∙◌}
+use mathlib.Core.Path.{◌≡◌}
 use Prim.Native.Nat.{ℕ, ◌+◌, ◌≤◌, ◌<◌}
 use native.Mathlib.Omega.{arith}
-use borrow.Author.Tests.{ne_eqb}
 use Rattle.rules.specs.Sizes.{slots}
 use Rattle.rules.specs.State.{State}
 use Rattle.rules.specs.Turn.{any_slot_refusal, Name, IDLE, LOAD, STORE, DERIVE, DELETE, REVOKE, RING, HEAR, SEND, RECEIVE, LOOK, unknown}
 use Rattle.rules.specs.declared.Operation.{Operation}
 use Rattle.look.specs.Looks.{Looks, seen}
-use Rattle.look.specs.declared.Looked.{Looked}
-use Rattle.look.proofs.Visits.{at_slot, seen_no, seen_yes, unless-refused, unless-done, seen_most, unless-most}
+use Rattle.rules.specs.declared.Capability.{Capability}
+use Rattle.rules.specs.declared.Refusal.{Refusal}
+use Rattle.std.specs.Prelude.{Ok, Err}
+use Rattle.look.proofs.Visits.{seen_no, seen_yes, unless-refused, unless-done, seen_most, unless-most}
 use Rattle.mail.proofs.Laws.{send-most, receive-most}
 use Rattle.decide.specs.Visits.{looks_derive, looks, looks_most}
 
--- DERIVE's slot x was looked up as k
-module _ {k : Looked} {s : State} {d x e : ℕ} (l : Looks k s d x e 0) where
-  -- the slot is refused; it is not, and t is no slot; and it is one
-  pub derive-refused : (t : ℕ) → e ≡ any_slot_refusal s d x → (k.refusal ≡ 0 → ⊥) → k.visits ≡ looks_derive s d x t
+-- DERIVE's slot x was looked up
+module _ {s : State} {d x before after : ℕ} where
+  -- it was refused; it was not, and t is no slot; and it is one
+  pub derive-refused : (y : Refusal) (t : ℕ) → Looks (Err y) after s d x (any_slot_refusal s d x) before → after ≡ before + looks_derive s d x t
   unfolding looks_derive
-  derive-refused t i h = unless-refused _ _ _ (ne_eqb _ 0 h) (l.refusal ∙ i) (at_slot l)
+  derive-refused y t l = let a = l.visits in let u = unless-refused after (before + seen x) (seen t) y l.refusal a in omega arith
 
-  pub derive_no : (t : ℕ) → e ≡ any_slot_refusal s d x → k.refusal ≡ 0 → slots ≤ t → k.visits ≡ looks_derive s d x t
+  pub derive_no : {k : Capability} (t : ℕ) → Looks (Ok k) after s d x (any_slot_refusal s d x) before → slots ≤ t → after ≡ before + looks_derive s d x t
   unfolding looks_derive
-  derive_no t i z h = unless-done _ _ _ (sym z ∙ l.refusal ∙ i) (seen_no _ _ t h (at_slot l))
+  derive_no t l h =
+      let a = l.visits in
+      let u = unless-done after (before + seen x) (seen t) l.refusal (seen_no _ _ t h a) in
+      omega arith
 
-  pub derive_yes : (t v : ℕ) → e ≡ any_slot_refusal s d x → k.refusal ≡ 0 → t < slots → v ≡ k.visits + 1 → v ≡ looks_derive s d x t
+  pub derive_yes : {k : Capability} (t v : ℕ) → Looks (Ok k) after s d x (any_slot_refusal s d x) before → t < slots → v ≡ after + 1 → v ≡ before + looks_derive s d x t
   unfolding looks_derive
-  derive_yes t v i z h g = unless-done _ _ _ (sym z ∙ l.refusal ∙ i) (seen_yes _ _ t h (let a = at_slot l in omega arith))
+  derive_yes t v l h g =
+      let a = l.visits in
+      let u = unless-done v (before + seen x) (seen t) l.refusal (seen_yes _ _ t h (omega arith)) in
+      omega arith
 
 pub looks-most : (s : State) (d : ℕ) (n : Name) (o : Operation) → looks s d n o ≤ looks_most n
 unfolding looks looks_derive

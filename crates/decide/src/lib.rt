@@ -4,35 +4,32 @@
 
 mod plain;
 
-ghost use Rattle.std.specs.Prelude.{◌≡◌, ◌≤◌, ◌<◌};
-ghost use Rattle.rules.specs.Sizes.{domains_most};
+ghost use Rattle.std.specs.Prelude.{◌<◌};
 ghost use Rattle.rules.specs.Turn.{named, decide as decide_rule};
-ghost use Rattle.layout.specs.Layout.{state_of, Enough};
+ghost use Rattle.layout.specs.Layout.{state_of};
 ghost use Rattle.look.specs.Looks.{Decides};
 ghost use Rattle.decide.specs.Visits.{looks};
 
-use look::Decided;
-use rules::Operation;
+use look::Acting;
+use rules::{Decision, Operation, Refusal};
 
-// What domain d's operation comes to.
-pub fn decide(mem: &[u32], d: u32, op: Operation) -> Decided
-    requires enough { Enough mem.now }
-    requires d_in_range { d < domains_most }
-    ensures { Decides result (decide_rule (state_of mem.now) d op) (looks (state_of mem.now) d (named op.number) op) }
+// What the domain's operation comes to.
+pub fn decide(who: &Acting<'_>, op: Operation, visits: &mut u32) -> Result<Decision, Refusal>
+    requires visits_left { visits.old < 4 }
+    ensures { Decides result visits.new (decide_rule (state_of who.now.memory.words.now) who.now.domain op) visits.old (looks (state_of who.now.memory.words.now) who.now.domain (named op.number) op) }
 {
-    let number = op.number;
-    match number {
-        0 => plain::idle(),
-        1 => plain::load(mem, d, op.first, op.second),
-        2 => plain::store(mem, d, op.first, op.second, op.third),
-        3 => plain::derive(mem, d, op.first, op.second, op.third, op.fourth),
-        4 => plain::delete(mem, d, op.first),
-        5 => plain::revoke(mem, d, op.first),
-        6 => plain::ring(mem, d, op.first),
-        7 => plain::hear(mem, d, op.first),
-        8 => mail::send(mem, d, op),
-        9 => mail::receive(mem, d, op.first, op.second),
-        10 => plain::look(mem, d, op.first),
-        _ => look::refused(1, 0),
+    match op.number {
+        0 => Ok(plain::idle()),
+        1 => plain::load(who, op.first, op.second, visits),
+        2 => plain::store(who, op.first, op.second, op.third, visits),
+        3 => plain::derive(who, op.first, op.second, op.third, op.fourth, visits),
+        4 => plain::delete(who, op.first, visits),
+        5 => plain::revoke(who, op.first, visits),
+        6 => plain::ring(who, op.first, visits),
+        7 => plain::hear(who, op.first, visits),
+        8 => mail::send(who, op, visits),
+        9 => mail::receive(who, op.first, op.second, visits),
+        10 => plain::look(who, op.first, visits),
+        _ => Err(Refusal::NoOperation),
     }
 }

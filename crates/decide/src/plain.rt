@@ -1,68 +1,62 @@
 // The operations on frames, bells and a domain's own slots.
-ghost use Rattle.std.specs.Prelude.{◌≡◌, cond, ◌≤◌, ◌<◌, eqb};
-ghost use Rattle.rules.specs.Sizes.{domains_most, all_slots};
+ghost use Rattle.std.specs.Prelude.{◌≡◌, cond, ◌<◌, eqb};
+ghost use Rattle.rules.specs.Sizes.{all_slots};
 ghost use Rattle.rules.specs.Turn.{load as load_rule, store as store_rule, derived as derived_rule, derive as derive_rule, delete as delete_rule, revoke as revoke_rule, ring as ring_rule, hear as hear_rule, look as look_rule};
-ghost use Rattle.layout.specs.Layout.{state_of, Enough};
+ghost use Rattle.layout.specs.Layout.{state_of};
 ghost use Rattle.look.specs.Looks.{Decides, Looks, done_by, seen};
 ghost use Rattle.decide.specs.Visits.{word_for, looks_derive};
 
-use look::{Decided, Looked, any_slot, done, nothing, refused, slot_for};
+use look::{Acting, done};
 use rules::{
-    Answer, BADGE_MOST, BELL, Capability, Decision, Effect, FRAME, FRAME_WORDS, READ, SLOTS, WRITE,
+    Answer, BADGE_MOST, Capability, Decision, Effect, FRAME_WORDS, Kind, READ, Refusal, SLOTS,
+    WRITE,
 };
 
-pub fn idle() -> Decided
-    ensures { Decides result (done_by Effect.Nothing 0) 0 }
+pub fn idle() -> Decision
+    ensures { result ≡ done_by Effect.Nothing 0 }
 {
-    done(Effect::Nothing, 0, 0)
+    done(Effect::Nothing, 0)
 }
 
-// Slot x of domain d for a frame with that right, and w one of its words: at most one visit.
-fn word_for(mem: &[u32], d: u32, x: u32, w: u32, right: u32) -> Looked
-    requires enough { Enough mem.now }
-    requires d_in_range { d < domains_most }
-    ensures { Looks result (state_of mem.now) d x (word_for (state_of mem.now) d x w right) 0 }
+// Slot x for a frame with that right, and w one of its words: at most one visit.
+fn word_for(
+    who: &Acting<'_>,
+    x: u32,
+    w: u32,
+    right: u32,
+    visits: &mut u32,
+) -> Result<Capability, Refusal>
+    requires visits_left { visits.old < 8 }
+    ensures { Looks result visits.new (state_of who.now.memory.words.now) who.now.domain x (word_for (state_of who.now.memory.words.now) who.now.domain x w right) visits.old }
 {
-    let k = slot_for(mem, d, x, FRAME, right);
-    if k.refusal != 0 {
-        return k;
+    let c = who.slot_for(x, Kind::Frame, right, visits)?;
+    if w < FRAME_WORDS {
+        Ok(c)
+    } else {
+        Err(Refusal::OutOfRange)
     }
-    if w >= FRAME_WORDS {
-        return Looked {
-            refusal: 6,
-            capability: nothing(),
-            visits: k.visits,
-        };
-    }
-    k
 }
 
-pub fn load(mem: &[u32], d: u32, x: u32, w: u32) -> Decided
-    requires enough { Enough mem.now }
-    requires d_in_range { d < domains_most }
-    ensures { Decides result (load_rule (state_of mem.now) d x w) (seen x) }
+pub fn load(who: &Acting<'_>, x: u32, w: u32, visits: &mut u32) -> Result<Decision, Refusal>
+    requires visits_left { visits.old < 4 }
+    ensures { Decides result visits.new (load_rule (state_of who.now.memory.words.now) who.now.domain x w) visits.old (seen x) }
 {
-    let k = word_for(mem, d, x, w, READ);
-    if k.refusal != 0 {
-        return refused(k.refusal, k.visits);
-    }
-    done(
-        Effect::Nothing,
-        layout::word(mem, k.capability.object, w),
-        k.visits,
-    )
+    let c = word_for(who, x, w, READ, visits)?;
+    Ok(done(Effect::Nothing, who.memory.word(c.object, w)))
 }
 
-pub fn store(mem: &[u32], d: u32, x: u32, w: u32, v: u32) -> Decided
-    requires enough { Enough mem.now }
-    requires d_in_range { d < domains_most }
-    ensures { Decides result (store_rule (state_of mem.now) d x w v) (seen x) }
+pub fn store(
+    who: &Acting<'_>,
+    x: u32,
+    w: u32,
+    v: u32,
+    visits: &mut u32,
+) -> Result<Decision, Refusal>
+    requires visits_left { visits.old < 4 }
+    ensures { Decides result visits.new (store_rule (state_of who.now.memory.words.now) who.now.domain x w v) visits.old (seen x) }
 {
-    let k = word_for(mem, d, x, w, WRITE);
-    if k.refusal != 0 {
-        return refused(k.refusal, k.visits);
-    }
-    done(Effect::Store(k.capability.object, w, v), 0, k.visits)
+    let c = word_for(who, x, w, WRITE, visits)?;
+    Ok(done(Effect::Store(c.object, w, v), 0))
 }
 
 // The badge of c if that isn't 0, else b.
@@ -86,111 +80,71 @@ fn derived(c: Capability, place: u32, r: u32, b: u32) -> Capability
     }
 }
 
-pub fn derive(mem: &[u32], d: u32, x: u32, t: u32, r: u32, b: u32) -> Decided
-    requires enough { Enough mem.now }
-    requires d_in_range { d < domains_most }
-    ensures { Decides result (derive_rule (state_of mem.now) d x t r b) (looks_derive (state_of mem.now) d x t) }
+pub fn derive(
+    who: &Acting<'_>,
+    x: u32,
+    t: u32,
+    r: u32,
+    b: u32,
+    visits: &mut u32,
+) -> Result<Decision, Refusal>
+    requires visits_left { visits.old < 4 }
+    ensures { Decides result visits.new (derive_rule (state_of who.now.memory.words.now) who.now.domain x t r b) visits.old (looks_derive (state_of who.now.memory.words.now) who.now.domain x t) }
 {
-    let k = any_slot(mem, d, x, 0);
-    if k.refusal != 0 {
-        return refused(k.refusal, k.visits);
-    }
+    let c = who.any_slot(x, visits)?;
     if t >= SLOTS {
-        return refused(2, k.visits);
+        return Err(Refusal::NoSlot);
     }
-    let free = layout::see(mem, d * SLOTS + t, k.visits);
-    if free.capability.kind != 0 {
-        return refused(7, free.visits);
+    let place = who.domain * SLOTS + t;
+    if who.memory.see(place, visits).kind != 0 {
+        return Err(Refusal::TakenSlot);
     }
     if b > BADGE_MOST {
-        return refused(6, free.visits);
+        return Err(Refusal::OutOfRange);
     }
-    done(
-        Effect::Put(d * SLOTS + t, derived(k.capability, d * SLOTS + x, r, b)),
-        0,
-        free.visits,
-    )
+    let made = derived(c, who.domain * SLOTS + x, r, b);
+    Ok(done(Effect::Put(place, made), 0))
 }
 
-pub fn delete(mem: &[u32], d: u32, x: u32) -> Decided
-    requires enough { Enough mem.now }
-    requires d_in_range { d < domains_most }
-    ensures { Decides result (delete_rule (state_of mem.now) d x) (seen x) }
+pub fn delete(who: &Acting<'_>, x: u32, visits: &mut u32) -> Result<Decision, Refusal>
+    requires visits_left { visits.old < 4 }
+    ensures { Decides result visits.new (delete_rule (state_of who.now.memory.words.now) who.now.domain x) visits.old (seen x) }
 {
-    let k = any_slot(mem, d, x, 0);
-    if k.refusal != 0 {
-        return refused(k.refusal, k.visits);
-    }
-    done(Effect::Drop(d * SLOTS + x), 0, k.visits)
+    who.any_slot(x, visits)?;
+    Ok(done(Effect::Drop(who.domain * SLOTS + x), 0))
 }
 
-pub fn revoke(mem: &[u32], d: u32, x: u32) -> Decided
-    requires enough { Enough mem.now }
-    requires d_in_range { d < domains_most }
-    ensures { Decides result (revoke_rule (state_of mem.now) d x) (seen x) }
+pub fn revoke(who: &Acting<'_>, x: u32, visits: &mut u32) -> Result<Decision, Refusal>
+    requires visits_left { visits.old < 4 }
+    ensures { Decides result visits.new (revoke_rule (state_of who.now.memory.words.now) who.now.domain x) visits.old (seen x) }
 {
-    let k = any_slot(mem, d, x, 0);
-    if k.refusal != 0 {
-        return refused(k.refusal, k.visits);
-    }
-    done(Effect::Prune(d * SLOTS + x), 0, k.visits)
+    who.any_slot(x, visits)?;
+    Ok(done(Effect::Prune(who.domain * SLOTS + x), 0))
 }
 
-pub fn ring(mem: &[u32], d: u32, x: u32) -> Decided
-    requires enough { Enough mem.now }
-    requires d_in_range { d < domains_most }
-    ensures { Decides result (ring_rule (state_of mem.now) d x) (seen x) }
+pub fn ring(who: &Acting<'_>, x: u32, visits: &mut u32) -> Result<Decision, Refusal>
+    requires visits_left { visits.old < 4 }
+    ensures { Decides result visits.new (ring_rule (state_of who.now.memory.words.now) who.now.domain x) visits.old (seen x) }
 {
-    let k = slot_for(mem, d, x, BELL, WRITE);
-    if k.refusal != 0 {
-        return refused(k.refusal, k.visits);
-    }
-    done(
-        Effect::Ring(k.capability.object, k.capability.badge),
-        0,
-        k.visits,
-    )
+    let c = who.slot_for(x, Kind::Bell, WRITE, visits)?;
+    Ok(done(Effect::Ring(c.object, c.badge), 0))
 }
 
-pub fn hear(mem: &[u32], d: u32, x: u32) -> Decided
-    requires enough { Enough mem.now }
-    requires d_in_range { d < domains_most }
-    ensures { Decides result (hear_rule (state_of mem.now) d x) (seen x) }
+pub fn hear(who: &Acting<'_>, x: u32, visits: &mut u32) -> Result<Decision, Refusal>
+    requires visits_left { visits.old < 4 }
+    ensures { Decides result visits.new (hear_rule (state_of who.now.memory.words.now) who.now.domain x) visits.old (seen x) }
 {
-    let k = slot_for(mem, d, x, BELL, READ);
-    if k.refusal != 0 {
-        return refused(k.refusal, k.visits);
-    }
-    done(
-        Effect::Hush(k.capability.object),
-        layout::bell(mem, k.capability.object),
-        k.visits,
-    )
+    let c = who.slot_for(x, Kind::Bell, READ, visits)?;
+    Ok(done(Effect::Hush(c.object), who.memory.bell(c.object)))
 }
 
-pub fn look(mem: &[u32], d: u32, x: u32) -> Decided
-    requires enough { Enough mem.now }
-    requires d_in_range { d < domains_most }
-    ensures { Decides result (look_rule (state_of mem.now) d x) (seen x) }
+pub fn look(who: &Acting<'_>, x: u32, visits: &mut u32) -> Result<Decision, Refusal>
+    requires visits_left { visits.old < 4 }
+    ensures { Decides result visits.new (look_rule (state_of who.now.memory.words.now) who.now.domain x) visits.old (seen x) }
 {
-    let k = any_slot(mem, d, x, 0);
-    if k.refusal != 0 {
-        return refused(k.refusal, k.visits);
-    }
-    let c = k.capability;
-    Decided {
-        decision: Decision {
-            effect: Effect::Nothing,
-            answer: Answer {
-                status: 0,
-                w0: c.kind,
-                w1: c.rights,
-                w2: c.object,
-                w3: c.badge,
-                w4: 0,
-                w5: 0,
-            },
-        },
-        visits: k.visits,
-    }
+    let c = who.any_slot(x, visits)?;
+    Ok(Decision {
+        effect: Effect::Nothing,
+        answer: Answer::of(c.kind, c.rights, c.object, c.badge, 0, 0),
+    })
 }

@@ -1,30 +1,25 @@
--- The laws of what is written: byte after byte, and the answer at each way out. Assumes nothing.
+-- The laws of what is written: what each byte says, and the answer at each way out. Assumes nothing.
 use mathlib.Core.Path.{◌≡◌, refl, sym, ap, ◌∙◌, subst}
-use mathlib.Core.Bool.{Bool, true}
+use mathlib.Core.Bool.{Bool, true, not, true≢false}
 use mathlib.Core.List.{List, [], ◌∷◌}
-use mathlib.Core.Logic.{⊎_elim}
 use Prim.Native.Nat.{ℕ, zero, suc, ◌+◌, ◌*◌, ◌/◌, ◌%◌, ◌^◌, ◌≤◌, ◌<◌}
-use native.Mathlib.Nat.{div-lt_iff_lt-mul, mod-lt, le_trans, mul-le-mul_right}
 use native.Mathlib.Omega.{arith}
 use lib.Arith.{digits_lt, digits_div, digits_mod}
 use lib.Dec.{eqb, leb}
-use lib.ListN.{length, get_or, set, length-set}
-use lib.Seq.{get_or-set_same, get_or-set_other}
+use lib.ListN.{length, get_or}
 use lib.Bits.{bit_and}
-use borrow.Author.Tests.{le-leb, lt-leb, eqb-true}
+use borrow.Author.Tests.{le-leb, lt-leb, eqb-true, ne_eqb}
 use Rattle.rules.specs.Turn.{◌then◌else◌}
 use Rattle.rules.specs.Image.{size_d, size_c, image_of, refusal_of, all_below}
 use Rattle.rules.specs.Flow.{triple_of, CouldHold, Flow}
 use Rattle.rules.proofs.Certificate.{below_at}
-use Rattle.rules.proofs.Places.{same?}
 use Rattle.image.specs.Said.{said}
 use Rattle.image.specs.declared.Fields.{Fields}
 use Rattle.flow.specs.Masks.{In, Meets, row, Themselves}
 use Rattle.flow.specs.Cells.{cell_of, entry_numbered, Accepted, Listed, Noted, Reach}
 use Rattle.flow.specs.Edges.{Whole}
-use Rattle.flow.specs.Answer.{Tells, Filled, HoldsAt, InAt, answer_for, Held, Flows}
+use Rattle.flow.specs.Answer.{Says, Tells, answer_for, Held, Flows}
 use Rattle.flow.proofs.Bits.{meets_some, some_meet}
-use Rattle.flow.proofs.Entries.{accepted_law}
 use Rattle.flow.proofs.Holding.{meets_holds, holds_meets}
 
 -- ---- one byte
@@ -34,76 +29,32 @@ module _ {b cells rows : List ℕ} {f : Fields} (x d i : ℕ) (acc : Accepted b)
   the_cell : x ≡ cell_of (triple_of (entry_numbered b i))
   the_cell = e ∙ ap (λ k. cell_of (triple_of k)) l.exact
 
-  pub held_not : bit_and (get_or rows d 0) (get_or cells x 0) ≡ 0 → Tells 0 (CouldHold (image_of b) d (triple_of (entry_numbered b i)))
-  held_not z =
+  -- the test of the masks says whether the domain could hold the triple
+  pub held_says : Says (not (eqb (bit_and (get_or rows d 0) (get_or cells x 0)) 0)) (CouldHold (image_of b) d (triple_of (entry_numbered b i)))
+  held_says =
       record {
-        most = omega arith;
-        told = λ h. absurd (omega arith);
-        every = λ h. absurd (meets_some (subst (λ k. Meets (row rows d) (get_or cells k 0)) (sym the_cell) (holds_meets acc noted reach d i h)) z);
+        told = λ t. meets_holds acc noted reach d i low
+            (subst (λ k. Meets (row rows d) (get_or cells k 0)) the_cell (some_meet _ _ (λ z. true≢false (sym (rw z at t)))));
+        every = λ h. ap not (ne_eqb _ _ (λ z. meets_some (subst (λ k. Meets (row rows d) (get_or cells k 0)) (sym the_cell) (holds_meets acc noted reach d i h)) z));
       }
 
-  pub held_so : (bit_and (get_or rows d 0) (get_or cells x 0) ≡ 0 → ⊥) → Tells 1 (CouldHold (image_of b) d (triple_of (entry_numbered b i)))
-  held_so n =
-      record {
-        most = omega arith;
-        told = λ h. meets_holds acc noted reach d i low (subst (λ k. Meets (row rows d) (get_or cells k 0)) the_cell (some_meet _ _ n));
-        every = λ h. refl;
-      }
+-- ---- what each byte says
 
--- ---- byte after byte
+-- each of the first n bytes y says whether P y, and the bytes behind are as before
+pub record Filled (P : ℕ → Type 0) (n : ℕ) (before after : List ℕ) : Type 0 where
+  pub long : length after ≡ length before
+  pub tells : (y : ℕ) → y < n → Tells (get_or after y 0) (P y)
+  pub behind : (y : ℕ) → n ≤ y → get_or after y 0 ≡ get_or before y 0
 
-module _ {P : ℕ → Type 0} where
-  pub filled_none : (out : List ℕ) → Filled P 0 out out
-  filled_none out = record { long = refl; tells = λ y l. absurd (omega arith); behind = λ y l. refl }
+-- byte y of rows of n bytes stands for domain y / n and entry y % n: that domain could hold that entry's triple
+abbrev pub HoldsAt : List ℕ → ℕ → ℕ → Type 0
+HoldsAt b n y = CouldHold (image_of b) (y / n) (triple_of (entry_numbered b (y % n)))
 
-  pub filled_more : {v : ℕ} {before now : List ℕ} (n : ℕ) → n < length now → Filled P n before now → Tells v (P n) → Filled P (n + 1) before (set now n v)
-  filled_more {v} {before} {now} n h f t =
-      record {
-        long = length-set now n v ∙ f.long;
-        tells = λ y l. ⊎_elim (λ z. subst (λ k. Tells (get_or (set now n v) k 0) (P k)) (sym z) (subst (λ k. Tells k (P n)) (sym (get_or-set_same now n v 0 h)) t))
-            (λ z. subst (λ k. Tells k (P y)) (sym (get_or-set_other now n y v 0 z)) (f.tells y (omega arith))) (same? y n);
-        behind = λ y l. get_or-set_other now n y v 0 (λ z. omega arith) ∙ f.behind y (omega arith);
-      }
-
-  pub filled_end : {before now : List ℕ} (n s d m : ℕ) → s ≡ d * m → n ≤ s → s ≤ n → Filled P n before now → Filled P (d * m) before now
-  filled_end {before} {now} n s d m e h g f = subst (λ k. Filled P k before now) (let z : n ≡ d * m = omega arith in z) f
-
--- one digit says whether a domain is in a row
-pub digit-tells : (v x y : ℕ) → v ≡ x / 2 ^ y % 2 → v ≤ 1 → Tells v (In y x)
-digit-tells v x y e h =
-    record { most = h; told = λ z. record { digit = sym e ∙ z }; every = λ i. e ∙ i.digit }
-
--- ---- d rows of n bytes, s in all
-
-some_rows : (x d n : ℕ) → x < d * n → 0 < n
-some_rows x d zero h = absurd (omega (arith, h))
-some_rows x d (suc n) h = omega arith
-
-module _ (x s d n : ℕ) (e : s ≡ d * n) (h : x < s) where
-  pub rows_some : 0 < n
-  rows_some = some_rows x d n (omega arith)
-
-  pub rows_quotient : (m : ℕ) → d ≤ m → x / n < m
-  rows_quotient m l = let q : x / n < d = (div-lt_iff_lt-mul rows_some).1 (omega arith) in omega arith
-
-  pub rows-least : (m : ℕ) → n ≤ m → x % n < m
-  rows-least m l = let q : x % n < n = mod-lt x rows_some in omega arith
-
-  pub rows-rest : (m : ℕ) → n ≡ m → x % n < m
-  rows-rest m l = let q : x % n < n = mod-lt x rows_some in omega arith
+-- byte y of rows of n bytes stands for domains y / n and y % n: the one is in the row of the other
+abbrev pub InAt : List ℕ → ℕ → ℕ → Type 0
+InAt rows n y = In (y % n) (row rows (y / n))
 
 -- ---- the answers
-
--- nothing refused
-pub accepted_of : {b : List ℕ} (r : ℕ) → r ≡ refusal_of b → r ≤ 0 → Accepted b
-accepted_of {b} r e h = accepted_law b (omega arith)
-
--- the number of bytes is small, and stays the same number where one of its factors is said otherwise
-pub area_low : (d n : ℕ) → d ≤ 16 → n ≤ 1024 → d * n ≤ 16384
-area_low d n h g = le_trans (mul-le-mul_right n h) (let z : 16 * n ≤ 16384 = omega arith in z)
-
-pub area_same : (d e n l : ℕ) → d ≡ e → d * n ≤ l → e * n ≤ l
-area_same d e n l z h = rw z at h
 
 answer-refused : (b out : List ℕ) (n r : ℕ) → r ≡ refusal_of b → 0 < r → r ≡ answer_for b n out
 unfolding answer_for ◌then◌else◌

@@ -16,7 +16,7 @@ use Rattle.flow.specs.Masks.{In, row, Meeting, United, Spread}
 use Rattle.flow.specs.Cells.{reading, writing, entry_numbered, Listed}
 use Rattle.flow.specs.Edges.{Uses, Users, Link, frame, mailbox, bell, Source, Edge, Added, Joined, link, on, Closing}
 use Rattle.flow.proofs.Bits.{in_or, or_left, or_right, in_one, one_in}
-use Rattle.flow.proofs.Rows.{spread_was, spread-stays, spread_new}
+use Rattle.flow.proofs.Spreading.{spread_was, spread-stays, spread_new}
 use Rattle.flow.proofs.Reaching.{in_low}
 
 -- ---- the domains that could hold an object

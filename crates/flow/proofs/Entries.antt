@@ -111,9 +111,9 @@ sourced e h = go (eqb e.source_domain no_domain) (eqb e.source_slot 0) refl refl
     go false u p q = refl
 
 -- an entry as it is fetched
-pub listed_law : {b : List ℕ} {f : Fields} (x i : ℕ) → Accepted b → i < size_c b → x ≡ entries_at (size_t b) → Fetched b (x + 12 * i) f → Listed b i f
+pub listed_law : {b : List ℕ} {f : Fields} (i : ℕ) → Accepted b → i < size_c b → Fetched b (entries_at (size_t b) + entry_bytes * i) f → Listed b i f
 unfolding entry_numbered
-listed_law {b} {f} x i a l e h =
+listed_law {b} {f} i a l h =
     record {
       exact = exact;
       domain = let z = r.domain in let y = a.domains in omega arith;
@@ -126,7 +126,7 @@ listed_law {b} {f} x i a l e h =
     }
   where
     exact : said f ≡ entry_numbered b i
-    exact = h.exact ∙ ap (λ k. entry_at b (k + 12 * i)) e
+    exact = h.exact
 
     m : Memᴰ (said f) (image_of b).entries
     m = subst (λ k. Memᴰ k (image_of b).entries) (sym exact) (entry-member b i l)

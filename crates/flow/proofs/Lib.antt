@@ -1,5 +1,5 @@
 pub mod Bits
-pub mod Rows
+pub mod Spreading
 pub mod Reaching
 pub mod Entries
 pub mod Holding

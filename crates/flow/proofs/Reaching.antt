@@ -13,7 +13,7 @@ use Rattle.rules.proofs.Places.{same?}
 use Rattle.flow.specs.Masks.{In, row, Meeting, OneOf, United, Spread, Themselves, sums}
 use Rattle.flow.specs.Cells.{granting, reading, Passes, own, on, Settled, total, Passed, Reach}
 use Rattle.flow.proofs.Bits.{below?, in_none, in_one, one_in}
-use Rattle.flow.proofs.Rows.{spread_was, spread-stays, spread_new, spread-most, sums-most, sums_same}
+use Rattle.flow.proofs.Spreading.{spread_was, spread-stays, spread_new, spread-most, sums-most, sums_same}
 
 -- only rows that there are have something
 pub in_low : {c : ℕ} (rows : List ℕ) (a : ℕ) → length rows ≡ domains_most → In c (row rows a) → a < domains_most

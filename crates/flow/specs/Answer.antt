@@ -1,9 +1,8 @@
 -- What the two functions of this crate answer and write, in the words of document 03. A list of numbers stands for bytes. Assumes nothing.
-use Rattle.std.specs.Prelude.{◌≡◌, List, ℕ, ◌+◌, ◌*◌, ◌/◌, ◌%◌, ◌≤◌, ◌<◌, leb, length, get_or}
+use Rattle.std.specs.Prelude.{◌≡◌, Bool, true, cond, List, ℕ, ◌+◌, ◌*◌, ◌/◌, ◌%◌, ◌≤◌, ◌<◌, leb, length, get_or}
 use Rattle.rules.specs.Turn.{◌then◌else◌}
 use Rattle.rules.specs.Image.{size_d, size_c, image_of, refusal_of}
 use Rattle.rules.specs.Flow.{triple_of, CouldHold, Flow}
-use Rattle.flow.specs.Masks.{In, row}
 use Rattle.flow.specs.Cells.{entry_numbered}
 
 -- a byte says whether P: it is 1 exactly where P holds, and 0 where not
@@ -12,19 +11,22 @@ pub record Tells (x : ℕ) (P : Type 0) : Type 0 where
   pub told : x ≡ 1 → P
   pub every : P → x ≡ 1
 
--- each of the first n bytes y says whether P y, and the bytes behind are as before
-pub record Filled (P : ℕ → Type 0) (n : ℕ) (before after : List ℕ) : Type 0 where
+-- a test's answer says whether P: it is true exactly where P holds
+pub record Says (t : Bool) (P : Type 0) : Type 0 where
+  pub told : t ≡ true → P
+  pub every : P → t ≡ true
+
+-- a byte is 1 or 0 by one of the answers R
+pub record Answered (R : Bool → Type 0) (x : ℕ) : Type 0 where
+  pub answer : Bool
+  pub given : R answer
+  pub byte : x ≡ cond answer 1 0
+
+-- each of the first n bytes, in rows of m, is 1 or 0 by a test's answer at its row and its place there, and the bytes behind are as before
+pub record Tested (R : ℕ → ℕ → Bool → Type 0) (m n : ℕ) (before after : List ℕ) : Type 0 where
   pub long : length after ≡ length before
-  pub tells : (y : ℕ) → y < n → Tells (get_or after y 0) (P y)
+  pub tested : (y : ℕ) → y < n → Answered (R (y / m) (y % m)) (get_or after y 0)
   pub behind : (y : ℕ) → n ≤ y → get_or after y 0 ≡ get_or before y 0
-
--- byte y of rows of n bytes stands for domain y / n and entry y % n: that domain could hold that entry's triple
-abbrev pub HoldsAt : List ℕ → ℕ → ℕ → Type 0
-HoldsAt b n y = CouldHold (image_of b) (y / n) (triple_of (entry_numbered b (y % n)))
-
--- byte y of rows of n bytes stands for domains y / n and y % n: the one is in the row of the other
-abbrev pub InAt : List ℕ → ℕ → ℕ → Type 0
-InAt rows n y = In (y % n) (row rows (y / n))
 
 -- the answer where n bytes are asked for: the image's refusal, or 28 where there are fewer, or 0
 unfoldable pub answer_for : List ℕ → ℕ → List ℕ → ℕ

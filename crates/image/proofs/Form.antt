@@ -1,68 +1,29 @@
 -- The laws of refusals 20 to 25: what each way out of the functions that test them has to show. Assumes nothing.
 use mathlib.Core.Path.{◌≡◌, refl, sym, ap, ◌∙◌, fun_ext}
-use mathlib.Core.Bool.{Bool, true, false, cond, ◌&&◌}
+use mathlib.Core.Bool.{Bool, true, false, not, ◌&&◌, ◌||◌}
 use mathlib.Core.List.{List, [], ◌∷◌}
 use Prim.Native.Nat.{ℕ, zero, suc, ◌+◌, ◌-◌, ◌*◌, ◌/◌, ◌≤◌, ◌<◌}
 use native.Mathlib.Omega.{arith}
 use native.Mathlib.Numerals.{add-one}
 use lib.Dec.{eqb, leb, ltb, leb-zero}
 use lib.ListN.{length, take, drop}
-use lib.Seq.{drop-cons}
-use borrow.Author.Tests.{eqb-true, lt-ltb, le-ltb, le-leb, lt-leb, ne_eqb}
-use Rattle.rules.specs.Sizes.{mailboxes, bells}
-use Rattle.rules.specs.State.{FRAME, MAILBOX, objects}
+use lib.Bits.{bit_and}
+use denote.Enum.Bare.{sameb}
+use borrow.Author.Tests.{eqb-true, le-ltb, le-leb, lt-leb, ne_eqb}
+use Rattle.std.specs.Prelude.{◌≢◌}
+use Rattle.std.specs.List.{list_all, range_with_len}
+use Rattle.rules.specs.Sizes.{slots}
+use Rattle.rules.specs.State.{FRAME, MAILBOX, BELL, GRANT, within, objects as objects_of}
+use Rattle.rules.specs.Kind.{kind_number}
+use Rattle.rules.specs.contracts.Kind.{the_type}
+use Rattle.rules.specs.declared.Kind.{Kind}
+use Rattle.rules.specs.declared.Kind.TheVariants.{Frame, Mailbox, Bell}
 use Rattle.rules.specs.Turn.{◌then◌else◌}
-use Rattle.rules.specs.Image.{Entry, byte, header_bytes, entry_bytes, size_d, size_t, size_f, padded, entries_at, length_for, table_of, padding_of, entry_at, entries_from, image_of, place_of, all, right_sizes, right_length, right_turns, right_entry, rising_from, rising, refusal_of_form}
+use Rattle.rules.specs.Image.{Entry, header_bytes, entry_bytes, size_d, size_t, size_c, size_f, padded, entries_at, length_for, table_of, padding_of, entry_at, entries_from, image_of, place_of, all, right_sizes, right_length, right_turns, right_entry, between, rising_from, rising, refusal_of_form}
 use Rattle.image.specs.Said.{Whole}
-use Rattle.image.specs.Sources.{entries_of}
+use Rattle.image.specs.Sources.{entries_of, each_entry}
 
--- ---- a test at each
-
-module _ {A : Type 0} (f : A → Bool) (w : Bool) (xs : List A) (y : A) (ys : List A) (e : xs ≡ y ∷ ys) where
-  -- what passes at the first depends on the others
-  pub all_turn : f y ≡ true → all f xs ≡ w → all f ys ≡ w
-  unfolding all
-  all_turn t h = rw (e, t) at h
-
-  -- what fails at the first fails
-  pub all_stop : f y ≡ false → all f xs ≡ w → false ≡ w
-  unfolding all
-  all_stop t h = rw (e, t) at h
-
--- ---- the objects of a kind
-
--- there are as many objects of either kind other than a frame
-pub objects_other : (frames kind : ℕ) → (kind ≡ FRAME → ⊥) → mailboxes ≡ objects frames kind
-unfolding objects
-objects_other frames kind n = rw (ne_eqb kind FRAME n) (same (eqb kind MAILBOX))
-  where
-    same : (t : Bool) → mailboxes ≡ cond t mailboxes bells
-    same true = refl
-    same false = refl
-
--- ---- 23: bytes from i up to e
-
--- the first of them and the others
-part_cons : (b : List ℕ) (i e : ℕ) → i < e → e ≤ length b → take (e - i) (drop i b) ≡ byte b i ∷ take (e - (i + 1)) (drop (i + 1) b)
-part_cons b i e l h = let z : e - i ≡ suc (e - suc i) = omega arith in rw (z, add-one, drop-cons b i 0 (omega arith))
-
-module _ (limit : ℕ) (b : List ℕ) where
-  -- the bytes from i up to e are below the limit
-  abbrev pub bytes_below : ℕ → ℕ → Bool
-  bytes_below i e = all (λ x. ltb x limit) (take (e - i) (drop i b))
-
-  -- one more byte that is
-  pub below-turn : (w : Bool) (i e x : ℕ) → i < e → e ≤ length b → x ≡ byte b i → x < limit → bytes_below i e ≡ w → bytes_below (i + 1) e ≡ w
-  below-turn w i e x l h p t = all_turn _ w _ _ _ (part_cons b i e l h) (lt-ltb (byte b i) limit (omega arith))
-
-  -- a byte that is not
-  pub below-stop : (w : Bool) (i e x : ℕ) → i < e → e ≤ length b → x ≡ byte b i → limit ≤ x → bytes_below i e ≡ w → false ≡ w
-  below-stop w i e x l h p t = all_stop _ w _ _ _ (part_cons b i e l h) (le-ltb (byte b i) limit (omega arith))
-
-  -- no byte is left
-  pub below_end : (w : Bool) (i e : ℕ) → e ≤ i → bytes_below i e ≡ w → true ≡ w
-  unfolding all
-  below_end w i e l inv = let z : e - i ≡ 0 = omega arith in rw z at inv
+-- ---- 23: the table's bytes and the padding
 
 -- below 1 is 0
 below_one : ◌≡◌ {A = ℕ → Bool} (λ x. ltb x 1) (λ x. eqb x 0)
@@ -72,37 +33,105 @@ below_one = fun_ext go
     go zero = refl
     go (suc x) = le-ltb (suc x) 1 (omega arith) ∙ sym (ne_eqb (suc x) 0 (λ e. omega arith))
 
+-- the library's test of each is the rules'
+all_same : {A : Type 0} (f : A → Bool) (xs : List A) → list_all f xs ≡ all f xs
+unfolding all
+all_same f [] = refl
+all_same f (x ∷ xs) = ap (λ t. f x && t) (all_same f xs)
+
 -- the table's bytes below D, and those after it below 1
-pub turns_law : (b : List ℕ) (D t at : ℕ) (r s : Bool) → D ≡ size_d b → t ≡ size_t b → at ≡ header_bytes + (size_t b + 3) / 4 * 4
-    → r ≡ bytes_below D b header_bytes (header_bytes + t) → s ≡ bytes_below 1 b (header_bytes + t) at → (r && s) ≡ right_turns b
-unfolding right_turns table_of padding_of padded
-turns_law b D t at r s d e a p q =
-    let m : header_bytes + t - header_bytes ≡ size_t b = omega arith in
+pub turns_law : (b table padding : List ℕ) (D t at : ℕ) (r s : Bool) → D ≡ size_d b → t ≡ size_t b → at ≡ header_bytes + (t + 3) / 4 * 4
+    → table ≡ table_of b → padding ≡ take (at - (header_bytes + t)) (drop (header_bytes + t) b)
+    → r ≡ list_all (λ x. ltb x D) table → s ≡ list_all (λ x. ltb x 1) padding → (r && s) ≡ right_turns b
+unfolding right_turns padding_of padded
+turns_law b table padding D t at r s d e a x y p q =
     let n : at - (header_bytes + t) ≡ (size_t b + 3) / 4 * 4 - size_t b = omega arith in
-    cc (rw (m, d) at p, rw (n, e, below_one) at q)
+    cc (rw (x, d, all_same) at p, rw (y, n, e, below_one, all_same) at q)
 
--- ---- 24: entries from byte i on
+-- ---- 24: one entry
 
--- where n entries are left, the first stands at byte i and the others after it
-pub entries_cons : (b : List ℕ) (n i : ℕ) → 0 < n → entries_from b n i ≡ entry_at b i ∷ entries_from b (n - 1) (i + entry_bytes)
+and_true : (t : Bool) → (t && true) ≡ t
+and_true true = refl
+and_true false = refl
+
+and_false : (t : Bool) → (t && false) ≡ false
+and_false true = refl
+and_false false = refl
+
+-- an entry of a kind
+pub kind_law : (k : Kind) (domains frames objects : ℕ) (m : Bool) (e : Entry) → kind_number k ≡ e.kind → m ≡ sameb the_type k Mailbox
+    → objects ≡ objects_of frames (kind_number k)
+    → ((ltb e.domain domains && ltb e.slot slots) && leb e.rights 7 && (not (eqb (bit_and GRANT e.rights) GRANT) || m) && ltb e.object objects && eqb e.last 0)
+    ≡ right_entry domains frames e
+unfolding right_entry between within
+kind_law Frame domains frames objects m e h p q = rw (← h, p, q, and_true)
+kind_law Mailbox domains frames objects m e h p q = rw (← h, p, q, and_true)
+kind_law Bell domains frames objects m e h p q = rw (← h, p, q, and_true)
+
+no_kind : (n : ℕ) → n ≢ FRAME → n ≢ MAILBOX → n ≢ BELL → between FRAME BELL n ≡ false
+unfolding between
+no_kind zero f m b = refl
+no_kind (suc zero) f m b = absurd (f refl)
+no_kind (suc (suc zero)) f m b = absurd (m refl)
+no_kind (suc (suc (suc zero))) f m b = absurd (b refl)
+no_kind (suc (suc (suc (suc n)))) f m b = rw (lt-leb (suc (suc (suc (suc n)))) 3 (omega arith), and_false)
+
+-- an entry of no kind
+pub unkind_law : (domains frames : ℕ) (e : Entry) → e.kind ≢ FRAME → e.kind ≢ MAILBOX → e.kind ≢ BELL → false ≡ right_entry domains frames e
+unfolding right_entry
+unkind_law domains frames e f m b = rw (no_kind e.kind f m b, and_false)
+
+-- ---- 24: the entries from entry i on
+
+-- entry i of the image, and the entries from it on
+abbrev pub entry_of : List ℕ → ℕ → Entry
+entry_of b i = entry_at b (entries_at (size_t b) + entry_bytes * i)
+
+abbrev pub later : List ℕ → ℕ → List Entry
+later b i = entries_from b (size_c b - i) (entries_at (size_t b) + entry_bytes * i)
+
+pub later_all : (b : List ℕ) → later b 0 ≡ entries_of b
+unfolding image_of
+later_all b =
+    let m : size_c b - 0 ≡ size_c b = omega arith in
+    let n : entries_at (size_t b) + entry_bytes * 0 ≡ entries_at (size_t b) = omega arith in
+    rw (m, n)
+
+-- n entries from byte i on: the first of them and the others
+entries_cons : (b : List ℕ) (n i : ℕ) → 0 < n → entries_from b n i ≡ entry_at b i ∷ entries_from b (n - 1) (i + entry_bytes)
 unfolding entries_from
 entries_cons b zero i l = absurd (omega arith)
 entries_cons b (suc n) i l = let z : suc n - 1 ≡ n = omega arith in rw z
 
-module _ (f : Entry → Bool) (w : Bool) (b : List ℕ) (n i : ℕ) (e : Entry) (r : Bool) (left : 0 < n) (here : e ≡ entry_at b i) (test : r ≡ f e) where
-  -- one more entry that passes
-  pub entries-turn : r ≡ true → all f (entries_from b n i) ≡ w → all f (entries_from b (n - 1) (i + entry_bytes)) ≡ w
-  entries-turn t = all_turn f w _ _ _ (entries_cons b n i left) (ap f (sym here) ∙ (sym test ∙ t))
-
-  -- an entry that fails
-  pub entries-stop : r ≡ false → all f (entries_from b n i) ≡ w → false ≡ w
-  entries-stop t = all_stop f w _ _ _ (entries_cons b n i left) (ap f (sym here) ∙ (sym test ∙ t))
+-- entry i and those after it
+pub later_cons : (b : List ℕ) (i : ℕ) → i < size_c b → later b i ≡ entry_of b i ∷ later b (i + 1)
+later_cons b i l =
+    let m : size_c b - i - 1 ≡ size_c b - (i + 1) = omega arith in
+    let n : entries_at (size_t b) + entry_bytes * i + entry_bytes ≡ entries_at (size_t b) + entry_bytes * (i + 1) = omega arith in
+    rw (m, n) at (entries_cons b (size_c b - i) (entries_at (size_t b) + entry_bytes * i) (omega arith))
 
 -- no entry is left
-pub entries_end : (f : Entry → Bool) (w : Bool) (b : List ℕ) (n i : ℕ) → n ≤ 0 → all f (entries_from b n i) ≡ w → true ≡ w
-unfolding entries_from all
-entries_end f w b zero i l h = h
-entries_end f w b (suc n) i l h = absurd (omega arith)
+pub later_none : (b : List ℕ) (i : ℕ) → size_c b ≤ i → later b i ≡ []
+unfolding entries_from
+later_none b i l = let z : size_c b - i ≡ 0 = omega arith in rw z
+
+-- n entries from entry k on, tested one by one
+each_from : (f : Entry → Bool) (b : List ℕ) (x n k : ℕ) → list_all (λ i. f (entry_at b (x + entry_bytes * i))) (range_with_len k n) ≡ all f (entries_from b n (x + entry_bytes * k))
+unfolding all entries_from
+each_from f b x zero k = refl
+each_from f b x (suc n) k =
+    let e : x + entry_bytes * (k + 1) ≡ x + entry_bytes * k + entry_bytes = omega arith in
+    ap (λ t. f (entry_at b (x + entry_bytes * k)) && t) (each_from f b x n (k + 1) ∙ ap (λ y. all f (entries_from b n y)) e)
+
+-- the code's test of each entry is the rules'
+pub each_same : (f : Entry → Bool) (b : List ℕ) (n : ℕ) → n ≡ size_c b → each_entry f b n ≡ all f (entries_of b)
+unfolding image_of
+each_same f b n e = rw e (let x : entries_at (size_t b) + entry_bytes * 0 ≡ entries_at (size_t b) = omega arith in rw x at (each_from f b (entries_at (size_t b)) (size_c b) 0))
+
+-- every entry is right, in the header's words
+pub each_right : {r : Bool} {b c : List ℕ} {D F n : ℕ} → r ≡ each_entry (right_entry D F) c n → D ≡ size_d c → F ≡ size_f c → n ≡ size_c c → c ≡ b
+    → r ≡ all (right_entry (size_d b) (size_f b)) (entries_of b)
+each_right {r} {b} {c} {D} {F} {n} h d f e z = rw z at (rw (d, f) at (h ∙ each_same (right_entry D F) c n e))
 
 -- ---- 25: strictly rising order
 
@@ -121,22 +150,21 @@ unfolding rises_from rising
 rises_all [] = refl
 rises_all (e ∷ es) = rw (leb-zero (place_of e)) (rises-after e es)
 
-module _ (w : Bool) (b : List ℕ) (next place n i : ℕ) (e : Entry) (left : 0 < n) (here : e ≡ entry_at b i) (at : place ≡ place_of e) where
+module _ (w : Bool) (b : List ℕ) (next place i : ℕ) (e : Entry) (left : i < size_c b) (here : e ≡ entry_of b i) (at : place ≡ place_of e) where
   -- one more entry that rises
-  pub rises-turn : next ≤ place → rises_from next (entries_from b n i) ≡ w → rises_from (place + 1) (entries_from b (n - 1) (i + entry_bytes)) ≡ w
+  pub rises-turn : next ≤ place → rises_from next (later b i) ≡ w → rises_from (place + 1) (later b (i + 1)) ≡ w
   unfolding rises_from
-  rises-turn t h = rw (entries_cons b n i left, ← here, ← at, le-leb next place t, ← add-one place) at h
+  rises-turn t h = rw (later_cons b i left, ← here, ← at, le-leb next place t, ← add-one place) at h
 
   -- an entry that does not
-  pub rises-stop : place < next → rises_from next (entries_from b n i) ≡ w → false ≡ w
+  pub rises-stop : place < next → rises_from next (later b i) ≡ w → false ≡ w
   unfolding rises_from
-  rises-stop t h = rw (entries_cons b n i left, ← here, ← at, lt-leb next place t) at h
+  rises-stop t h = rw (later_cons b i left, ← here, ← at, lt-leb next place t) at h
 
 -- no entry is left
-pub rises_end : (w : Bool) (b : List ℕ) (next n i : ℕ) → n ≤ 0 → rises_from next (entries_from b n i) ≡ w → true ≡ w
-unfolding entries_from rises_from
-rises_end w b next zero i l h = h
-rises_end w b next (suc n) i l h = absurd (omega arith)
+pub rises_end : (w : Bool) (b : List ℕ) (next i : ℕ) → size_c b ≤ i → rises_from next (later b i) ≡ w → true ≡ w
+unfolding rises_from
+rises_end w b next i l h = rw (later_none b i l) at h
 
 -- ---- the first that applies
 

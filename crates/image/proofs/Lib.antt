@@ -1,4 +1,5 @@
 pub mod Form
-pub mod Index
+pub mod Indexing
 pub mod Tied
 pub mod Marks
+pub mod Refused

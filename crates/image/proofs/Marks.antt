@@ -19,7 +19,8 @@ use Rattle.rules.proofs.Derivation.{chain}
 use Rattle.rules.proofs.Chain.{return_source}
 use Rattle.rules.proofs.Given.{Entered, given_either}
 use Rattle.image.specs.Sources.{entries_of, given_by, Marked, Climbed, NoReturn}
-use Rattle.image.proofs.Index.{set-each, zeros_at, entry_of, entry-at}
+use Rattle.image.proofs.Indexing.{set-each, same_at, entry-at}
+use Rattle.image.proofs.Form.{entry_of}
 
 -- the numbers in a list that are 0: a climb leaves fewer of them at each step
 pub zeros : List ℕ → ℕ
@@ -103,12 +104,12 @@ module _ (at : Places) (m₀ : List ℕ) (from k p : ℕ) (m : List ℕ) (c : Cl
           inside = omega (arith, l p, ap (λ c. c.source) e);
           mark = c.mark;
           long = simp length-set c.long;
-          kept = set-each (λ q v. (get_or m₀ q 0 ≡ 0 → ⊥) → v ≡ 0 → ⊥) m p k h (λ x y. omega (arith, c.mark)) (λ q x. c.kept q);
-          here = set-each (λ q v. q ≡ from → v ≡ 0 → r.source - 1 ≡ from) m p k h (λ x y. absurd (omega (arith, c.mark)))
+          kept = set-each 0 (λ q v. (get_or m₀ q 0 ≡ 0 → ⊥) → v ≡ 0 → ⊥) m p k h (λ x y. omega (arith, c.mark)) (λ q x. c.kept q);
+          here = set-each 0 (λ q v. q ≡ from → v ≡ 0 → r.source - 1 ≡ from) m p k h (λ x y. absurd (omega (arith, c.mark)))
               (λ q x y w. absurd (x (y ∙ sym (c.here (rw y at w))))) from refl;
-          low = set-each (λ q v. v ≤ k) m p k h (omega arith) (λ q x. c.low q);
-          clear = set-each (λ q v. (v ≡ 0 → ⊥) → (v ≡ k → ⊥) → Derived at q q → ⊥) m p k h (λ x y. absurd (y refl)) (λ q x. c.clear q);
-          path = set-each (λ q v. v ≡ k → Derived at (r.source - 1) q) m p k h (λ x. direct s) (λ q x y. chain (direct s) (c.path q y));
+          low = set-each 0 (λ q v. v ≤ k) m p k h (omega arith) (λ q x. c.low q);
+          clear = set-each 0 (λ q v. (v ≡ 0 → ⊥) → (v ≡ k → ⊥) → Derived at q q → ⊥) m p k h (λ x y. absurd (y refl)) (λ q x. c.clear q);
+          path = set-each 0 (λ q v. v ≡ k → Derived at (r.source - 1) q) m p k h (λ x. direct s) (λ q x y. chain (direct s) (c.path q y));
         }
 
     -- at a place without a mark and without a source
@@ -117,13 +118,13 @@ module _ (at : Places) (m₀ : List ℕ) (from k p : ℕ) (m : List ℕ) (c : Cl
         let stop : Derived at p p → ⊥ = λ d. let (x, t, u) = return_source d refl in omega (arith, ap (λ c. c.source) e) in
         let h : p < length m = omega (arith, c.long, c.inside) in
         record {
-          kept = set-each (λ q v. (get_or m₀ q 0 ≡ 0 → ⊥) → v ≡ 0 → ⊥) m p k h (λ x y. omega (arith, c.mark)) (λ q x. c.kept q);
-          here = set-each (λ q v. q ≡ from → v ≡ 0 → ⊥) m p k h (λ x y. omega (arith, c.mark)) (λ q x y w. x (y ∙ sym (c.here (rw y at w)))) from refl;
+          kept = set-each 0 (λ q v. (get_or m₀ q 0 ≡ 0 → ⊥) → v ≡ 0 → ⊥) m p k h (λ x y. omega (arith, c.mark)) (λ q x. c.kept q);
+          here = set-each 0 (λ q v. q ≡ from → v ≡ 0 → ⊥) m p k h (λ x y. omega (arith, c.mark)) (λ q x y w. x (y ∙ sym (c.here (rw y at w)))) from refl;
           marked = λ t.
               record {
                 long = simp length-set c.long;
-                low = set-each (λ q v. v < k + 1) m p k h (omega arith) (λ q x. omega (arith, c.low q));
-                clear = set-each (λ q v. (v ≡ 0 → ⊥) → Derived at q q → ⊥) m p k h (λ x. stop) (λ q x. cleared stop q);
+                low = set-each 0 (λ q v. v < k + 1) m p k h (omega arith) (λ q x. omega (arith, c.low q));
+                clear = set-each 0 (λ q v. (v ≡ 0 → ⊥) → Derived at q q → ⊥) m p k h (λ x. stop) (λ q x. cleared stop q);
               };
           back = λ t. absurd (true≢false t);
         }
@@ -144,8 +145,8 @@ pass_none b =
       marked =
           record {
             long = refl;
-            low = λ q. omega (arith, zeros_at all_slots q);
-            clear = λ q n. absurd (n (zeros_at all_slots q));
+            low = λ q. omega (arith, same_at {A = ℕ} 0 all_slots q);
+            clear = λ q n. absurd (n (same_at {A = ℕ} 0 all_slots q));
           };
       each = λ j l. absurd (omega arith);
     }

@@ -2,6 +2,7 @@
 use mathlib.Core.Path.{◌≡◌, refl, sym, ap, ◌∙◌}
 use mathlib.Core.Bool.{Bool, true, false, not, ◌&&◌, ◌||◌}
 use mathlib.Core.List.{List, Memᴰ}
+use Rattle.std.specs.Prelude.{Option}
 use mathlib.Core.Logic.{◌⊎◌, inl, inr, ⊎_elim}
 use Prim.Native.Nat.{ℕ, zero, suc, ◌-◌, ◌≤◌, ◌<◌}
 use native.Mathlib.Omega.{arith}
@@ -197,7 +198,7 @@ module _ (b : List ℕ) (f : Formed b) where
         (λ n. sym n) (decided_by (all (right_source es) es))
 
   -- what a climb goes by
-  pub linked_law : (index : List ℕ) → Indexed b index → (r : Bool) → r ≡ all (tied es) es → r ≡ true → Linked b index
+  pub linked_law : (index : List (Option ℕ)) → Indexed b index → (r : Bool) → r ≡ all (tied es) es → r ≡ true → Linked b index
   linked_law index x r h t = record { formed = f; indexed = x; slots = sources-low (sym h ∙ t) }
 
   -- what the climbs come to

@@ -1,39 +1,116 @@
-// The boot image, document 01, section 5: the first refusal that applies to any bytes. It only reads, and its cost is linear in the number
-// of entries. Numbers of two bytes have the high byte first. Refusals 20 to 25 are tested in their order, each by a function of its own,
-// which may rely on the tests before it. Refusal 26 comes last: an index from places to entries finds the entry that defines a source at
-// once, and marks at places find a chain of sources that comes back, each place being passed once.
+// The boot image, document 01, section 5: the first refusal that applies to any bytes, and an image's header and entries. It only reads, and
+// its cost is linear in the number of entries. Numbers of two bytes have the high byte first. Refusals 20 to 25 are tested in their order,
+// each by a function of its own, which may rely on the tests before it. Refusal 26 comes last: an index from places to entries finds the
+// entry that defines a source at once, and marks at places find a chain of sources that comes back, each place being passed once.
 #![tactic(auto)]
 
-ghost use Rattle.std.specs.Prelude.{◌≡◌, ◌+◌, ◌-◌, ◌*◌, ◌/◌, ◌≤◌, ◌<◌, ltb, length, take, drop};
+ghost use Rattle.std.specs.Prelude.{◌≡◌, ◌+◌, ◌*◌, ◌/◌, ◌≤◌, ◌<◌, length, ltb, IfOk};
+ghost use Rattle.std.specs.List.{list_all};
 ghost use Rattle.rules.specs.Sizes.{all_slots};
 ghost use Rattle.rules.specs.State.{objects as objects_of};
-ghost use Rattle.rules.specs.Image.{byte as byte_at, two as two_at, header_bytes, entry_bytes, size_d, size_t, size_c, size_f, entries_at, entry_at, place_of, source_of, capability_given, all, right_sizes, right_length, right_turns, right_entry, rising, fitting, right_source, refusal_of_form, refusal_of};
-ghost use Rattle.image.specs.Said.{said, Fetched, Whole};
-ghost use Rattle.image.specs.Sources.{entries_of, given_by, Formed, Indexed, Linked, Marked, Climbed, NoReturn, tied};
+ghost use Rattle.rules.specs.Kind.{kind_number};
+ghost use Rattle.rules.specs.Refusal.{status_of};
+ghost use Rattle.rules.specs.Image.{byte as byte_at, two as two_at, header_bytes, entry_bytes, size_d, size_t, size_c, size_f, header_last, entries_at, entry_at, place_of, source_of, capability_given, all, right_sizes, right_length, right_turns, right_entry, table_of, rising, fitting, right_source, refusal_of_form, refusal_of};
+ghost use Rattle.image.specs.Said.{said, Fetched, Headed, Whole};
+ghost use Rattle.image.specs.Sources.{entries_of, given_by, Formed, Indexed, Linked, Marked, Climbed, NoReturn, tied, each_entry};
 
-use rules::Capability;
+use rules::{
+    BELLS, Capability, DOMAINS_MOST, ENTRIES_MOST, FRAMES_MOST, GRANT, Kind, MAILBOXES, READ,
+    Refusal, SLOTS, TURNS_MOST, WRITE,
+};
 
 // The bytes of the header and of an entry.
-const HEADER: usize = 8;
+pub const HEADER: usize = 8;
 
-const ENTRY: usize = 12;
+pub const ENTRY: usize = 12;
 
-// The slots of a domain and of all domains.
-const SLOTS: u32 = 64;
+// The bytes of the longest image.
+pub const IMAGE_MOST: usize = HEADER + TURNS_MOST as usize + ENTRY * ENTRIES_MOST as usize;
 
-const ALL_SLOTS: usize = 1024;
+// The slots of all domains.
+const ALL_SLOTS: usize = rules::ALL_SLOTS as usize;
 
-// The kinds, and the right that only a mailbox's capability may have.
-const FRAME: u32 = 1;
+// The source's domain where there is no source.
+pub const NO_DOMAIN: u32 = 255;
 
-const MAILBOX: u32 = 2;
+// The number of byte i.
+fn byte(image: &[u8], i: usize) -> u32
+    requires { i < length image.now }
+    ensures { (result ≡ byte_at image.now i) × (result < 256) }
+{
+    u32::from(image[i])
+}
 
-const BELL: u32 = 3;
+// The number of the two bytes at i, high byte first.
+fn two(image: &[u8], i: usize) -> u32
+    requires { i + 1 < length image.now }
+    ensures { (result ≡ two_at image.now i) × (result < 65536) }
+{
+    byte(image, i) * 256 + byte(image, i + 1)
+}
 
-const GRANT: u32 = 4;
+// What the header says: D, T, C and F.
+#[derive(Clone, Copy, Debug, PartialEq, Eq)]
+pub struct Header {
+    pub domains: u32,
+    pub turns: u32,
+    pub entries: u32,
+    pub frames: u32,
+}
 
-// The fields of an entry.
-#[derive(Clone, Copy)]
+impl Header {
+    // The header of bytes that are long enough for one.
+    pub fn of(image: &[u8]) -> Header
+        requires { header_bytes ≤ length image.now }
+        ensures { Headed image.now result }
+    {
+        Header {
+            domains: byte(image, 0),
+            turns: byte(image, 1),
+            entries: two(image, 2),
+            frames: two(image, 4),
+        }
+    }
+
+    // Where the entries begin.
+    pub fn entries_at(self) -> usize
+        requires { self.turns < 256 }
+        ensures { (result ≡ entries_at self.turns) × (result ≡ header_bytes + (self.turns + 3) / 4 * 4) }
+    {
+        HEADER + (self.turns as usize + 3) / 4 * 4
+    }
+}
+
+// Refusal 21: D is 1 to 16, T 1 to 64, C 0 to 1,024, F 1 to 256, and bytes 6 and 7 are 0.
+fn sizes_right(image: &[u8], header: Header) -> bool
+    requires long_enough { header_bytes ≤ length image.now }
+    requires headed { Headed image.now header }
+    ensures { result ≡ right_sizes image.now }
+{
+    ((1 <= header.domains) & (header.domains <= DOMAINS_MOST))
+        & ((1 <= header.turns) & (header.turns <= TURNS_MOST))
+        & (header.entries <= ENTRIES_MOST)
+        & ((1 <= header.frames) & (header.frames <= FRAMES_MOST))
+        & (two(image, 6) == 0)
+}
+
+// Refusal 22: the length is exactly what T and C give.
+fn length_right(image: &[u8], header: Header) -> bool
+    requires { Headed image.now header }
+    ensures { result ≡ right_length image.now }
+{
+    image.len() == header.entries_at() + ENTRY * header.entries as usize
+}
+
+// Each byte is below limit.
+fn below(bytes: &[u8], limit: u32) -> bool
+    ensures { result ≡ list_all (λ x. ltb x limit) bytes.now }
+{
+    bytes.iter().all(|b| u32::from(*b) < limit)
+}
+
+// The fields of an entry, as numbers: any bytes may stand there.
+#[derive(Clone, Copy, Debug, PartialEq, Eq)]
 pub struct Fields {
     pub domain: u32,
     pub slot: u32,
@@ -46,83 +123,39 @@ pub struct Fields {
     pub last: u32,
 }
 
-// Byte i.
-fn byte(image: &[u8], i: usize) -> u32
-    requires { i < length image.now }
-    ensures { (result ≡ byte_at image.now i) × (result < 256) }
-{
-    image[i] as u32
-}
-
-// The number of the two bytes at i, high byte first.
-fn two(image: &[u8], i: usize) -> u32
-    requires { i + 1 < length image.now }
-    ensures { (result ≡ two_at image.now i) × (result < 65536) }
-{
-    byte(image, i) * 256 + byte(image, i + 1)
-}
-
-// Where the entries begin.
-fn entries_at(image: &[u8]) -> usize
-    requires { header_bytes ≤ length image.now }
-    ensures { (result ≡ entries_at (size_t image.now)) × (result ≡ header_bytes + (size_t image.now + 3) / 4 * 4) × (result < 268) }
-{
-    HEADER + (byte(image, 1) as usize + 3) / 4 * 4
-}
-
-// The number of entries.
-fn count(image: &[u8]) -> usize
-    requires { header_bytes ≤ length image.now }
-    ensures { (result ≡ size_c image.now) × (result < 65536) }
-{
-    two(image, 2) as usize
-}
-
-// Refusal 21: D is 1 to 16, T 1 to 64, C 0 to 1,024, F 1 to 256, and bytes 6 and 7 are 0.
-fn sizes_right(image: &[u8]) -> bool
-    requires { header_bytes ≤ length image.now }
-    ensures { result ≡ right_sizes image.now }
-{
-    let domains = byte(image, 0);
-    let turns = byte(image, 1);
-    let frames = two(image, 4);
-    ((1 <= domains) & (domains <= 16))
-        & ((1 <= turns) & (turns <= 64))
-        & (two(image, 2) <= 1024)
-        & ((1 <= frames) & (frames <= 256))
-        & (two(image, 6) == 0)
-}
-
-// Refusal 22: the length is exactly what T and C give.
-fn length_right(image: &[u8]) -> bool
-    requires { header_bytes ≤ length image.now }
-    ensures { result ≡ right_length image.now }
-{
-    image.len() == entries_at(image) + ENTRY * count(image)
-}
-
-// Each byte from byte from up to byte to, which is not one of them, is below limit.
-fn below(image: &[u8], from: usize, to: usize, limit: u32) -> bool
-    requires { to ≤ length image.now }
-    ensures { result ≡ all (λ x. ltb x limit) (take (to - from) (drop from image.now)) }
-{
-    let mut i = from;
-    while i < to {
-        if limit <= byte(image, i) {
-            return false;
-        }
-        i += 1;
+impl Fields {
+    // The place that it is for.
+    pub fn place(self) -> u32
+        requires { (self.domain < 256) × (self.slot < 256) }
+        ensures { result ≡ place_of (said self) }
+    {
+        self.domain * SLOTS + self.slot
     }
-    true
-}
 
-// Refusal 23: each turn names a domain of the image, and the padding is 0.
-fn turns_right(image: &[u8]) -> bool
-    requires { Whole image.now }
-    ensures { result ≡ right_turns image.now }
-{
-    let end = HEADER + byte(image, 1) as usize;
-    below(image, HEADER, end, byte(image, 0)) & below(image, end, entries_at(image), 1)
+    // Its source number: 0 for none, else the source's place + 1.
+    pub fn source(self) -> u32
+        requires { (self.source_domain < 256) × (self.source_slot < 256) }
+        ensures { (result ≡ source_of (said self)) × (result ≤ 16576) }
+    {
+        if self.source_domain == NO_DOMAIN && self.source_slot == 0 {
+            return 0;
+        }
+        self.source_domain * SLOTS + self.source_slot + 1
+    }
+
+    // Its capability.
+    pub fn capability(self) -> Capability
+        requires { (self.source_domain < 256) × (self.source_slot < 256) }
+        ensures { (result ≡ capability_given (said self)) × (result.source ≤ 16576) }
+    {
+        Capability {
+            kind: self.kind,
+            rights: self.rights,
+            object: self.object,
+            badge: self.badge,
+            source: self.source(),
+        }
+    }
 }
 
 // The entry whose first byte is byte at.
@@ -144,158 +177,150 @@ pub fn entry(image: &[u8], at: usize) -> Fields
 }
 
 // The objects that there are of a kind, in an image with so many frames.
-fn objects(frames: u32, kind: u32) -> u32
-    ensures { result ≡ objects_of frames kind }
+fn objects(frames: u32, kind: Kind) -> u32
+    ensures { result ≡ objects_of frames (kind_number kind) }
 {
-    if kind == FRAME { frames } else { 64 }
+    match kind {
+        Kind::Frame => frames,
+        Kind::Mailbox => MAILBOXES,
+        Kind::Bell => BELLS,
+    }
 }
 
 // Refusal 24 for one entry, in an image with so many domains and frames.
 pub fn entry_right(e: Fields, domains: u32, frames: u32) -> bool
     ensures { result ≡ right_entry domains frames (said e) }
 {
+    let Ok(kind) = Kind::try_from(e.kind) else {
+        return false;
+    };
     (e.domain < domains)
         & (e.slot < SLOTS)
-        & ((FRAME <= e.kind) & (e.kind <= BELL))
-        & (e.rights <= 7)
-        & ((GRANT & e.rights != GRANT) | (e.kind == MAILBOX))
-        & (e.object < objects(frames, e.kind))
+        & (e.rights <= READ + WRITE + GRANT)
+        & ((GRANT & e.rights != GRANT) | (kind == Kind::Mailbox))
+        & (e.object < objects(frames, kind))
         & (e.last == 0)
 }
 
-// Refusal 24: every entry is right.
-fn entries_right(image: &[u8]) -> bool
-    requires { Whole image.now }
-    ensures { result ≡ all (right_entry (size_d image.now) (size_f image.now)) (entries_of image.now) }
-{
-    let domains = byte(image, 0);
-    let frames = two(image, 4);
-    let mut at = entries_at(image);
-    let mut left = count(image);
-    while 0 < left {
-        if !entry_right(entry(image, at), domains, frames) {
-            return false;
-        }
-        at += ENTRY;
-        left -= 1;
-    }
-    true
+// Bytes whose length is what their header says: each entry lies in them.
+#[derive(Clone, Copy)]
+pub struct Image<'a> {
+    pub bytes: &'a [u8],
+    pub header: Header,
+    pub ghost domains_is: { header.domains ≡ size_d bytes.now },
+    pub ghost turns_is: { header.turns ≡ size_t bytes.now },
+    pub ghost entries_is: { header.entries ≡ size_c bytes.now },
+    pub ghost frames_is: { header.frames ≡ size_f bytes.now },
+    pub ghost turns_in_byte: { header.turns < 256 },
+    pub ghost entries_in_bytes: { header.entries < 65536 },
+    pub ghost whole: { length bytes.now ≡ header_bytes + (header.turns + 3) / 4 * 4 + entry_bytes * header.entries },
 }
 
-// Refusal 25: strictly rising order of domain, then slot. next is the least place that may come next.
-fn rises(image: &[u8]) -> bool
-    requires { Whole image.now }
-    ensures { result ≡ rising (entries_of image.now) }
-{
-    let mut at = entries_at(image);
-    let mut left = count(image);
-    let mut next = 0;
-    while 0 < left {
-        let e = entry(image, at);
-        let place = e.domain * SLOTS + e.slot;
-        if place < next {
-            return false;
+impl<'a> Image<'a> {
+    // The image in bytes whose length is right.
+    pub fn of(bytes: &'a [u8]) -> Image<'a>
+        requires { Whole bytes.now }
+        ensures { result.bytes.now ≡ bytes.now }
+    {
+        Image {
+            bytes,
+            header: Header::of(bytes),
         }
-        next = place + 1;
-        at += ENTRY;
-        left -= 1;
     }
-    true
+
+    // The table of turns.
+    pub fn turns(&self) -> &[u8]
+        ensures { result.now ≡ table_of self.now.bytes.now }
+    {
+        &self.bytes[HEADER..HEADER + self.header.turns as usize]
+    }
+
+    // Entry number i, counted from 0.
+    pub fn entry(&self, i: u32) -> Fields
+        requires { i < self.now.header.entries }
+        ensures { Fetched self.now.bytes.now (entries_at (size_t self.now.bytes.now) + entry_bytes * i) result }
+    {
+        entry(self.bytes, self.header.entries_at() + ENTRY * i as usize)
+    }
+
+    // The place of entry i.
+    fn place(&self, i: u32) -> usize
+        requires formed { Formed self.now.bytes.now }
+        requires i_in_range { i < self.now.header.entries }
+        ensures { (result ≡ place_of (entry_at self.now.bytes.now (entries_at (size_t self.now.bytes.now) + entry_bytes * i))) × (result < all_slots) }
+    {
+        self.entry(i).place() as usize
+    }
+
+    // Refusal 23: each turn names a domain of the image, and the padding is 0.
+    fn turns_right(&self) -> bool
+        ensures { result ≡ right_turns self.now.bytes.now }
+    {
+        let padding = &self.bytes[HEADER + self.header.turns as usize..self.header.entries_at()];
+        below(self.turns(), self.header.domains) & below(padding, 1)
+    }
+
+    // Refusal 24: every entry is right.
+    fn entries_right(&self) -> bool
+        ensures { result ≡ each_entry (right_entry self.now.header.domains self.now.header.frames) self.now.bytes.now self.now.header.entries }
+    {
+        (0..self.header.entries).all(|i| entry_right(
+            self.entry(i),
+            self.header.domains,
+            self.header.frames,
+        ))
+    }
+
+    // Refusal 25: strictly rising order of domain, then slot. next is the least place that may come next.
+    fn rises(&self) -> bool
+        ensures { result ≡ rising (entries_of self.now.bytes.now) }
+    {
+        let mut next = 0;
+        for i in 0..self.header.entries {
+            let place = self.entry(i).place();
+            if place < next {
+                return false;
+            }
+            next = place + 1;
+        }
+        true
+    }
 }
 
-// The first refusal below 26 that applies, or 0.
-pub fn form_refusal(image: &[u8]) -> u32
-    ensures { result ≡ refusal_of_form image.now }
+// The image in bytes to which no refusal below 26 applies, or the first that does.
+fn formed(image: &[u8]) -> Result<Image<'_>, Refusal>
+    ensures refusal { status_of result ≡ refusal_of_form image.now }
+    ensures same { IfOk result (λ i. i.bytes.now ≡ image.now) }
 {
     if image.len() < HEADER {
-        return 20;
+        return Err(Refusal::ImageShort);
     }
-    if !sizes_right(image) {
-        return 21;
+    let header = Header::of(image);
+    if !sizes_right(image, header) {
+        return Err(Refusal::ImageSizes);
     }
-    if !length_right(image) {
-        return 22;
+    if !length_right(image, header) {
+        return Err(Refusal::ImageLength);
     }
-    if !turns_right(image) {
-        return 23;
+    let image = Image::of(image);
+    if !image.turns_right() {
+        return Err(Refusal::ImageTurns);
     }
-    if !entries_right(image) {
-        return 24;
+    if !image.entries_right() {
+        return Err(Refusal::ImageEntry);
     }
-    if !rises(image) {
-        return 25;
+    if !image.rises() {
+        return Err(Refusal::ImageOrder);
     }
-    0
+    Ok(image)
 }
 
-// The source number of an entry: 0 for none, else the source's place + 1.
-fn source_of(e: Fields) -> u32
-    requires { (e.source_domain < 256) × (e.source_slot < 256) }
-    ensures { (result ≡ source_of (said e)) × (result ≤ 16576) }
+// The first refusal below 26 that applies.
+pub fn accept_form(image: &[u8]) -> Result<(), Refusal>
+    ensures { status_of result ≡ refusal_of_form image.now }
 {
-    if (e.source_domain == 255) & (e.source_slot == 0) {
-        return 0;
-    }
-    e.source_domain * SLOTS + e.source_slot + 1
-}
-
-// The capability of an entry.
-fn capability_of(e: Fields) -> Capability
-    requires { (e.source_domain < 256) × (e.source_slot < 256) }
-    ensures { (result ≡ capability_given (said e)) × (result.source ≤ 16576) }
-{
-    Capability {
-        kind: e.kind,
-        rights: e.rights,
-        object: e.object,
-        badge: e.badge,
-        source: source_of(e),
-    }
-}
-
-// The place of entry i, counted from 0.
-fn place(image: &[u8], i: usize) -> usize
-    requires formed { Formed image.now }
-    requires i_in_range { i < size_c image.now }
-    ensures { (result ≡ place_of (entry_at image.now (entries_at (size_t image.now) + entry_bytes * i))) × (result < all_slots) }
-{
-    let e = entry(image, entries_at(image) + ENTRY * i);
-    (e.domain * SLOTS + e.slot) as usize
-}
-
-// For each place the number of the entry for it, counted from 1, or 0. It is filled from the last entry to the first.
-fn index_of(image: &[u8]) -> [u16; ALL_SLOTS]
-    requires { Formed image.now }
-    ensures { Indexed image.now result }
-{
-    let mut index = [0u16; ALL_SLOTS];
-    let mut i = count(image);
-    while 0 < i {
-        index[place(image, i - 1)] = i as u16;
-        i -= 1;
-    }
-    index
-}
-
-// What the entries give at place p.
-fn given_at(image: &[u8], index: &[u16; ALL_SLOTS], p: usize) -> Capability
-    requires formed { Formed image.now }
-    requires indexed { Indexed image.now index.now }
-    ensures { result ≡ given_by image.now p }
-{
-    if p < ALL_SLOTS {
-        let number = index[p] as usize;
-        if 0 < number {
-            return capability_of(entry(image, entries_at(image) + ENTRY * (number - 1)));
-        }
-    }
-    Capability {
-        kind: 0,
-        rights: 0,
-        object: 0,
-        badge: 0,
-        source: 0,
-    }
+    formed(image)?;
+    Ok(())
 }
 
 // A capability against its source: the same kind and object, no right that the source lacks, the source's badge if that isn't 0.
@@ -308,107 +333,133 @@ fn fits(c: Capability, p: Capability) -> bool
         & ((p.badge == 0) | (c.badge == p.badge))
 }
 
-// Refusal 26 for one entry, but for where following sources leads: it has no source, or one that an entry defines and that it fits.
-fn source_tied(image: &[u8], index: &[u16; ALL_SLOTS], e: Fields) -> bool
-    requires formed { Formed image.now }
-    requires indexed { Indexed image.now index.now }
-    requires source_in_bytes { (e.source_domain < 256) × (e.source_slot < 256) }
-    ensures { result ≡ tied (entries_of image.now) (said e) }
-{
-    let c = capability_of(e);
-    if c.source == 0 {
-        return true;
-    }
-    if SLOTS <= e.source_slot {
-        return false;
-    }
-    let p = given_at(image, index, c.source as usize - 1);
-    (p.kind != 0) & fits(c, p)
+// An image to which no refusal below 26 applies, and for each place the number of the entry for it, if there is one.
+#[derive(Drop)]
+struct Index<'a> {
+    image: Image<'a>,
+    numbers: [Option<u16>; ALL_SLOTS],
+    ghost formed: { Formed image.bytes.now },
+    ghost indexed: { Indexed image.bytes.now numbers },
 }
 
-// The same for every entry.
-fn sources_tied(image: &[u8], index: &[u16; ALL_SLOTS]) -> bool
-    requires formed { Formed image.now }
-    requires indexed { Indexed image.now index.now }
-    ensures { result ≡ all (tied (entries_of image.now)) (entries_of image.now) }
-{
-    let mut at = entries_at(image);
-    let mut left = count(image);
-    while 0 < left {
-        if !source_tied(image, index, entry(image, at)) {
-            return false;
+impl<'a> Index<'a> {
+    // The index is filled from the last entry to the first.
+    fn of(image: Image<'a>) -> Index<'a>
+        requires { Formed image.bytes.now }
+        ensures { result.image.bytes.now ≡ image.entry.bytes.now }
+    {
+        let mut numbers = [None; ALL_SLOTS];
+        for i in (0..image.header.entries).rev() {
+            numbers[image.place(i)] = Some(i as u16);
         }
-        at += ENTRY;
-        left -= 1;
+        Index { image, numbers }
     }
-    true
-}
 
-// Follows sources from a place and leaves a mark at each place that it comes to, up to one without a source or with a mark. False where
-// that mark is its own: following sources comes back.
-fn climb(
-    image: &[u8],
-    index: &[u16; ALL_SLOTS],
-    marks: &mut [u16; ALL_SLOTS],
-    from: usize,
-    mark: u16,
-) -> bool
-    requires linked { Linked image.now index.now }
-    requires marked { Marked (given_by image.now) mark marks.old }
-    requires from_in_range { from < all_slots }
-    ensures { Climbed (given_by image.now) from mark result marks.old marks.new }
-{
-    let mut p = from;
-    while marks[p] == 0 {
-        marks[p] = mark;
-        let source = given_at(image, index, p).source;
-        if source == 0 {
+    // What the entries give at place p.
+    fn given_at(&self, p: usize) -> Capability
+        ensures { result ≡ given_by self.now.image.bytes.now p }
+    {
+        if p < ALL_SLOTS {
+            if let Some(i) = self.numbers[p] {
+                return self.image.entry(u32::from(i)).capability();
+            }
+        }
+        Capability::NOTHING
+    }
+
+    // Refusal 26 for one entry, but for where following sources leads: it has no source, or one that an entry defines and that it fits.
+    fn source_tied(&self, e: Fields) -> bool
+        requires { (e.source_domain < 256) × (e.source_slot < 256) }
+        ensures { result ≡ tied (entries_of self.now.image.bytes.now) (said e) }
+    {
+        let c = e.capability();
+        if c.source == 0 {
             return true;
         }
-        p = source as usize - 1;
-    }
-    marks[p] != mark
-}
-
-// Following sources never comes back to where it began: a climb from the place of each entry, each with a mark of its own.
-fn ends(image: &[u8], index: &[u16; ALL_SLOTS]) -> bool
-    requires { Linked image.now index.now }
-    ensures { NoReturn (given_by image.now) result }
-{
-    let mut marks = [0u16; ALL_SLOTS];
-    let entries = count(image);
-    let mut i = 0;
-    while i < entries {
-        if !climb(image, index, &mut marks, place(image, i), (i + 1) as u16) {
+        if SLOTS <= e.source_slot {
             return false;
         }
-        i += 1;
+        let p = self.given_at(c.source as usize - 1);
+        (p.kind != 0) & fits(c, p)
     }
-    true
+
+    // The same for every entry.
+    fn sources_tied(&self) -> bool
+        ensures { result ≡ each_entry (tied (entries_of self.now.image.bytes.now)) self.now.image.bytes.now self.now.image.header.entries }
+    {
+        (0..self.image.header.entries).all(|i| self.source_tied(self.image.entry(i)))
+    }
+
+    // Follows sources from a place and leaves a mark at each place that it comes to, up to one without a source or with a mark. False where
+    // that mark is its own: following sources comes back. Mark 0 is none, so that each mark is below the next climb's.
+    fn climb(&self, marks: &mut [u16; ALL_SLOTS], from: usize, mark: u16) -> bool
+        requires linked { Linked self.now.image.bytes.now self.now.numbers }
+        requires marked { Marked (given_by self.now.image.bytes.now) mark marks.old }
+        requires from_in_range { from < all_slots }
+        ensures { Climbed (given_by self.now.image.bytes.now) from mark result marks.old marks.new }
+    {
+        let mut p = from;
+        while marks[p] == 0 {
+            marks[p] = mark;
+            let source = self.given_at(p).source;
+            if source == 0 {
+                return true;
+            }
+            p = source as usize - 1;
+        }
+        marks[p] != mark
+    }
+
+    // Following sources never comes back to where it began: a climb from the place of each entry, each with a mark of its own.
+    fn ends(&self) -> bool
+        requires { Linked self.now.image.bytes.now self.now.numbers }
+        ensures { NoReturn (given_by self.now.image.bytes.now) result }
+    {
+        let mut marks = [0u16; ALL_SLOTS];
+        for i in 0..self.image.header.entries {
+            if !self.climb(&mut marks, self.image.place(i), (i + 1) as u16) {
+                return false;
+            }
+        }
+        true
+    }
+
+    // Refusal 26: every source is right.
+    fn sources_right(&self) -> bool
+        ensures { result ≡ all (right_source (entries_of self.now.image.bytes.now)) (entries_of self.now.image.bytes.now) }
+    {
+        if !self.sources_tied() {
+            return false;
+        }
+        self.ends()
+    }
 }
 
-// Refusal 26: every source is right.
-fn sources_right(image: &[u8]) -> bool
-    requires { Formed image.now }
-    ensures { result ≡ all (right_source (entries_of image.now)) (entries_of image.now) }
-{
-    let index = index_of(image);
-    if !sources_tied(image, &index) {
-        return false;
-    }
-    ends(image, &index)
+// An image to which no refusal applies.
+#[derive(Clone, Copy)]
+pub struct Accepted<'a> {
+    pub image: Image<'a>,
+    pub ghost not_refused: { refusal_of image.bytes.now ≡ 0 },
 }
 
-// The first refusal that applies, or 0.
-pub fn refusal(image: &[u8]) -> u32
-    ensures { result ≡ refusal_of image.now }
+impl<'a> Accepted<'a> {
+    // The image in bytes, or the first refusal that applies to them.
+    pub fn of(bytes: &'a [u8]) -> Result<Accepted<'a>, Refusal>
+        ensures refusal { status_of result ≡ refusal_of bytes.now }
+        ensures same { IfOk result (λ a. a.image.bytes.now ≡ bytes.now) }
+    {
+        let image = formed(bytes)?;
+        if !Index::of(image).sources_right() {
+            return Err(Refusal::ImageSource);
+        }
+        Ok(Accepted { image })
+    }
+}
+
+// The first refusal that applies.
+pub fn accept(image: &[u8]) -> Result<(), Refusal>
+    ensures { status_of result ≡ refusal_of image.now }
 {
-    let form = form_refusal(image);
-    if form != 0 {
-        return form;
-    }
-    if !sources_right(image) {
-        return 26;
-    }
-    0
+    Accepted::of(image)?;
+    Ok(())
 }

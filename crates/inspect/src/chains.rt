@@ -1,190 +1,117 @@
 // Why there is a flow: for each yes of the table that is not from a domain to itself, the shortest chain of direct flows, each with what
 // carries it.
-ghost use Rattle.std.specs.Prelude.{◌≤◌};
-
-use crate::table::{CELLS, DOMAINS};
-use crate::{direct, fields, table};
-
-// More steps than any chain has: there is none.
-const FAR: usize = 100;
+use crate::direct::{Carrier, Carriers};
+use crate::domains::{DOMAINS, Table};
+use crate::verdict::Flows;
+use std::fmt;
+use std::fmt::Write;
+use text::Text;
 
 // As many steps stand on a line.
-const STEPS: usize = 3;
+const STEPS: u8 = 3;
 
-// The steps from the row's domain to the column's, of cell x.
-fn steps(distances: &[usize], x: usize) -> usize
-    ensures { result ≤ 100 }
-{
-    let n = fields::number(distances, x);
-    if n < FAR { n } else { FAR }
+// The direct flows, and the steps of the shortest chain from the row's domain to the column's, if there is a chain.
+#[derive(Drop)]
+struct Chains {
+    carriers: Carriers,
+    steps: Table<Option<u8>>,
 }
 
-// Cell x at first: 0 from a domain to itself, 1 for a direct flow.
-fn begin_cell(carriers: &[usize], x: usize, distances: &mut [usize]) {
-    if x / DOMAINS == x % DOMAINS {
-        fields::set_number(distances, x, 0);
-    } else if fields::number(carriers, x) != 0 {
-        fields::set_number(distances, x, 1);
+impl Chains {
+    // The chains of direct flows: each by way of each domain, one after the other. Three cells are read at once, so no row is walked.
+    fn new(carriers: Carriers) -> Self {
+        let mut chains = Chains {
+            carriers,
+            steps: Table::new(None),
+        };
+        chains.begin();
+        for way in 0..DOMAINS {
+            for from in 0..DOMAINS {
+                for to in 0..DOMAINS {
+                    chains.shorten(from, way, to);
+                }
+            }
+        }
+        chains
     }
-}
 
-// Each cell at first.
-fn begin(carriers: &[usize], distances: &mut [usize]) {
-    for x in 0..CELLS {
-        begin_cell(carriers, x, distances);
-    }
-}
-
-// Cell x by way of domain k, where that is shorter.
-fn shorten_cell(k: usize, x: usize, distances: &mut [usize]) {
-    let there = steps(distances, table::cell(x / DOMAINS, k));
-    let on = steps(distances, table::cell(k, x % DOMAINS));
-    if there + on < steps(distances, x) {
-        fields::set_number(distances, x, there + on);
-    }
-}
-
-// Each cell by way of domain k.
-fn shorten(k: usize, distances: &mut [usize]) {
-    for x in 0..CELLS {
-        shorten_cell(k, x, distances);
-    }
-}
-
-// The steps of the shortest chains: each cell by way of each domain, one after the other.
-fn measure(carriers: &[usize], distances: &mut [usize]) {
-    begin(carriers, distances);
-    for k in 0..DOMAINS {
-        shorten(k, distances);
-    }
-}
-
-// The domain after a on a shortest chain from a to b.
-fn next(carriers: &[usize], distances: &[usize], a: usize, b: usize) -> usize {
-    let left = steps(distances, table::cell(a, b));
-    for k in 0..DOMAINS {
-        if fields::number(carriers, table::cell(a, k)) != 0 {
-            if steps(distances, table::cell(k, b)) < left {
-                return k;
+    // No step from a domain to itself, one step where there is a direct flow.
+    fn begin(&mut self) {
+        for (from, row) in self.carriers.rows().enumerate() {
+            for (to, carrier) in row.iter().enumerate() {
+                let steps = if from == to {
+                    Some(0)
+                } else {
+                    carrier.map(|_| 1)
+                };
+                self.steps.set(from, to, steps);
             }
         }
     }
-    b
+
+    // The steps from one domain to another, if there is a chain.
+    fn steps(&self, from: usize, to: usize) -> Option<u8> {
+        self.steps.get(from, to)?
+    }
+
+    // The steps by way of a third, if there is such a chain.
+    fn steps_by(&self, from: usize, way: usize, to: usize) -> Option<u8> {
+        self.steps(from, way)?.checked_add(self.steps(way, to)?)
+    }
+
+    // Goes by way of a third domain, where that is shorter.
+    fn shorten(&mut self, from: usize, way: usize, to: usize) {
+        if let Some(by) = self.steps_by(from, way, to)
+            && self.steps(from, to).is_none_or(|steps| by < steps)
+        {
+            self.steps.set(from, to, Some(by));
+        }
+    }
+
+    // The first step of a shortest chain: to where, and what carries it.
+    fn step(&self, from: usize, to: usize) -> Option<(usize, Carrier)> {
+        let left = self.steps(from, to)?;
+        (0..DOMAINS)
+            .filter(|way| self.steps(*way, to).is_some_and(|steps| steps < left))
+            .find_map(|way| Some((way, self.carriers.get(from, way)?)))
+    }
+
+    // The steps of a shortest chain, each as `2 -> 3 by mailbox 3`. Counted, they end.
+    fn chain(&self, from: usize, to: usize, out: &mut Text) -> fmt::Result {
+        let mut at = from;
+        for i in 0..self.steps(from, to).unwrap_or(0) {
+            if let Some((next, carrier)) = self.step(at, to) {
+                write!(out, "{}{at} -> {next} by {carrier}", between(i))?;
+                at = next;
+            }
+        }
+        Ok(())
+    }
 }
 
 // What stands before step number i of a chain.
-fn between(i: usize, buffer: &mut [u8], waiting: usize) -> usize {
+fn between(i: u8) -> &'static str {
     if i == 0 {
-        return waiting;
+        ""
+    } else if i % STEPS == 0 {
+        ",\n          "
+    } else {
+        ", "
     }
-    if i % STEPS != 0 {
-        return text::word(buffer, waiting, b", ");
-    }
-    text::word(buffer, waiting, b",\n          ")
-}
-
-// Step number i of a chain, from a to b, as `2 -> 3 by mailbox 3`.
-fn step(
-    image: &[u8],
-    carriers: &[usize],
-    a: usize,
-    b: usize,
-    i: usize,
-    buffer: &mut [u8],
-    waiting: usize,
-) -> usize {
-    let n = between(i, buffer, waiting);
-    let n = text::form(buffer, n, b"% -> % by ", &[a as u64, b as u64]);
-    direct::name(
-        image,
-        fields::number(carriers, table::cell(a, b)),
-        buffer,
-        n,
-    )
-}
-
-// The steps of a shortest chain from a to b.
-fn chain(
-    image: &[u8],
-    carriers: &[usize],
-    distances: &[usize],
-    a: usize,
-    b: usize,
-    buffer: &mut [u8],
-    waiting: usize,
-) -> usize {
-    let count = steps(distances, table::cell(a, b));
-    let mut n = waiting;
-    let mut at = a;
-    for i in 0..count {
-        let to = next(carriers, distances, at, b);
-        n = step(image, carriers, at, to, i, buffer, n);
-        at = to;
-    }
-    n
-}
-
-// The reason for a flow from a to b.
-fn reason(
-    image: &[u8],
-    carriers: &[usize],
-    distances: &[usize],
-    a: usize,
-    b: usize,
-    buffer: &mut [u8],
-    waiting: usize,
-) -> usize {
-    let n = text::column(buffer, waiting, a as u64, 2);
-    let n = text::word(buffer, n, b" to ");
-    let n = text::column(buffer, n, b as u64, 2);
-    let n = text::word(buffer, n, b": ");
-    let n = chain(image, carriers, distances, a, b, buffer, n);
-    text::line(buffer, n)
-}
-
-// The line of cell x, where it has a flow from one domain to another.
-fn line(
-    image: &[u8],
-    flows: &[u8],
-    carriers: &[usize],
-    distances: &[usize],
-    x: usize,
-    buffer: &mut [u8],
-    waiting: usize,
-) -> usize {
-    let a = x / DOMAINS;
-    let b = x % DOMAINS;
-    if a == b {
-        return waiting;
-    }
-    if !table::flows(flows, a, b) {
-        return waiting;
-    }
-    reason(image, carriers, distances, a, b, buffer, waiting)
-}
-
-// The lines of all cells.
-fn lines(
-    image: &[u8],
-    flows: &[u8],
-    carriers: &[usize],
-    distances: &[usize],
-    buffer: &mut [u8],
-    waiting: usize,
-) -> usize {
-    let mut n = waiting;
-    for x in 0..CELLS {
-        n = line(image, flows, carriers, distances, x, buffer, n);
-    }
-    n
 }
 
 // The reasons of a table of flows.
-pub fn show(image: &[u8], flows: &[u8], buffer: &mut [u8], waiting: usize) -> usize {
-    let mut carriers = [0usize; CELLS];
-    direct::fill(image, &mut carriers);
-    let mut distances = [FAR; CELLS];
-    measure(&carriers, &mut distances);
-    let n = text::word(buffer, waiting, b"\nreasons, by direct flows\n");
-    lines(image, flows, &carriers, &distances, buffer, n)
+pub fn show(flows: &Flows, carriers: Carriers, out: &mut Text) -> fmt::Result {
+    let chains = Chains::new(carriers);
+    writeln!(out, "\nreasons, by direct flows")?;
+    for (from, row) in flows.rows().enumerate() {
+        for (to, flow) in row.iter().enumerate() {
+            if *flow && from != to {
+                write!(out, "{from:>2} to {to:>2}: ")?;
+                chains.chain(from, to, out)?;
+                writeln!(out)?;
+            }
+        }
+    }
+    Ok(())
 }

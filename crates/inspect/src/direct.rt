@@ -1,216 +1,151 @@
-// Direct flow, document 03, section 2, with what carries it. The table of carriers has 16 by 16 cells, from the row's domain to the column's:
-// 0 for no direct flow, 1 + the number of an object among all kinds (frames from 0, mailboxes from 256, bells from 320), or 385 + the number
-// of an entry whose source is in the row's domain and that is the column's.
-ghost use Rattle.std.specs.Prelude.{◌<◌};
+// Direct flow, document 03, section 2, with what carries it.
+use crate::domains::{DOMAINS, Set, Table};
+use crate::fields::{Entry, Image};
+use crate::objects::{KINDS, Objects};
+use crate::verdict::Held;
+use crate::words::Object;
+use rules::{Kind, Refusal, Rights};
+use std::fmt;
+use std::slice::Iter;
 
-use crate::hold::ANSWERS;
-use crate::table::{CELLS, DOMAINS};
-use crate::{fields, table, words};
-
-// The first mailbox and the first bell among all objects, and the number of all.
-const MAILBOX: usize = 256;
-
-const BELL: usize = 320;
-
-const OBJECTS: usize = 384;
-
-// The number of an entry's object among all.
-fn object_of(image: &[u8], e: usize) -> usize {
-    let f = fields::entry(image, e);
-    if f.kind == 1 {
-        return f.object as usize;
-    }
-    if f.kind == 2 {
-        return MAILBOX + f.object as usize;
-    }
-    BELL + f.object as usize
+// What carries a direct flow: an object, or REVOKE of the capability in a slot, from which another was derived.
+#[derive(Clone, Copy, Debug)]
+pub enum Carrier {
+    Object(Object),
+    Revoke { slot: usize },
 }
 
-// Domain d is one of an object's users, where it has the right.
-fn use_object(users: &mut [u32], object: usize, d: usize, right: u32) {
-    if right == 1 {
-        fields::put(users, object, d);
-    }
-}
-
-// Domain d has the triple of entry e: it is one of the object's readers or writers, by the rights.
-fn note(image: &[u8], e: usize, d: usize, writers: &mut [u32], readers: &mut [u32]) {
-    let object = object_of(image, e);
-    let rights = fields::entry(image, e).rights;
-    use_object(writers, object, d, rights / 2 % 2);
-    use_object(readers, object, d, rights % 2);
-}
-
-// What each entry gives to its domain.
-fn note_own(image: &[u8], writers: &mut [u32], readers: &mut [u32]) {
-    let entries = fields::entries(image);
-    for e in 0..entries {
-        let d = fields::entry(image, e).domain as usize;
-        note(image, e, d, writers, readers);
-    }
-}
-
-// What a domain could hold by entry e, where the answer for it is 1.
-fn note_answer(
-    image: &[u8],
-    answer: usize,
-    e: usize,
-    d: usize,
-    writers: &mut [u32],
-    readers: &mut [u32],
-) {
-    if answer == 1 {
-        note(image, e, d, writers, readers);
-    }
-}
-
-// The same for each entry. The domain's answers begin with answer first.
-fn note_domain(
-    image: &[u8],
-    answers: &[u8],
-    first: usize,
-    d: usize,
-    writers: &mut [u32],
-    readers: &mut [u32],
-)
-    requires { first < 16777216 }
-{
-    let entries = fields::entries(image);
-    for e in 0..entries {
-        note_answer(
-            image,
-            fields::byte(answers, first + e),
-            e,
-            d,
-            writers,
-            readers,
-        );
-    }
-}
-
-// The readers and the writers of each object.
-fn note_all(image: &[u8], answers: &[u8], writers: &mut [u32], readers: &mut [u32]) {
-    let entries = fields::entries(image);
-    let mut first = 0;
-    for d in 0..DOMAINS {
-        note_domain(image, answers, first, d, writers, readers);
-        first += entries;
-    }
-}
-
-// An object with these writers and readers carries a flow from a to b.
-fn carries(object: usize, writers: u32, readers: u32, a: usize, b: usize) -> bool {
-    let both = writers | readers;
-    if object < MAILBOX {
-        return fields::has(writers, a) & fields::has(readers, b);
-    }
-    if object < BELL {
-        return fields::has(both, a) & fields::has(both, b);
-    }
-    fields::has(both, a) & fields::has(readers, b)
-}
-
-// A carrier from a to b, where there is none yet and the two are different.
-fn carry(a: usize, b: usize, carrier: usize, carriers: &mut [usize]) {
-    let x = table::cell(a, b);
-    if a != b {
-        if fields::number(carriers, x) == 0 {
-            fields::set_number(carriers, x, carrier);
+impl fmt::Display for Carrier {
+    fn fmt<W: fmt::Write>(&self, f: &mut fmt::Formatter<W>) -> fmt::Result {
+        match self {
+            Carrier::Object(object) => write!(f, "{object}"),
+            Carrier::Revoke { slot } => write!(f, "REVOKE of slot {slot}"),
         }
     }
 }
 
-// Cell x of the table, for an object with these writers and readers.
-fn link_cell(object: usize, writers: u32, readers: u32, x: usize, carriers: &mut [usize])
-    requires { object < 384 }
-{
-    let a = x / DOMAINS;
-    let b = x % DOMAINS;
-    if carries(object, writers, readers, a, b) {
-        carry(a, b, 1 + object, carriers);
+// The domains that could use an object: with WRITE, and with READ.
+#[derive(Clone, Copy, Default)]
+struct Users {
+    writers: Set,
+    readers: Set,
+}
+
+impl Users {
+    // A domain has these rights to the object.
+    fn insert(&mut self, domain: usize, rights: Rights) {
+        if rights.have(Rights::WRITE) {
+            self.writers.insert(domain);
+        }
+        if rights.have(Rights::READ) {
+            self.readers.insert(domain);
+        }
+    }
+
+    // Those from whom there is a flow over an object of a kind, and those to whom.
+    fn ends(&self, kind: Kind) -> (Set, Set) {
+        let both = self.writers | self.readers;
+        match kind {
+            Kind::Frame => (self.writers, self.readers),
+            Kind::Mailbox => (both, both),
+            Kind::Bell => (both, self.readers),
+        }
     }
 }
 
-// Direct flow over an object.
-fn link(object: usize, writers: u32, readers: u32, carriers: &mut [usize])
-    requires { object < 384 }
-{
-    for x in 0..CELLS {
-        link_cell(object, writers, readers, x, carriers);
+// The users of each object.
+type AllUsers = Objects<Users>;
+
+// A domain has what an entry gives.
+fn note(users: &mut AllUsers, domain: usize, entry: Entry) {
+    if let Some(users) = users.get_mut(entry.object) {
+        users.insert(domain, entry.rights);
     }
 }
 
-// Direct flow over each object.
-fn link_all(writers: &[u32], readers: &[u32], carriers: &mut [usize]) {
-    for object in 0..OBJECTS {
-        link(
-            object,
-            fields::mask(writers, object),
-            fields::mask(readers, object),
-            carriers,
-        );
+// Each entry's domain has what the entry gives.
+fn note_own(users: &mut AllUsers, image: Image<'_>) {
+    for entry in image.entries() {
+        note(users, entry.place.domain, entry);
     }
 }
 
-// Direct flow by the source of entry e.
-fn derive(image: &[u8], e: usize, carriers: &mut [usize])
-    requires { e < 65536 }
-{
-    let f = fields::entry(image, e);
-    carry(
-        f.source_domain as usize,
-        f.domain as usize,
-        1 + OBJECTS + e,
-        carriers,
-    );
-}
-
-// Direct flow by each entry's source.
-fn derive_all(image: &[u8], carriers: &mut [usize]) {
-    let entries = fields::entries(image);
-    for e in 0..entries {
-        derive(image, e, carriers);
+// Each domain has what it could hold.
+fn note_held(users: &mut AllUsers, image: Image<'_>, held: &Held) {
+    for domain in 0..DOMAINS {
+        for (entry, holds) in image.entries().zip(held.row(domain)) {
+            if *holds {
+                note(users, domain, entry);
+            }
+        }
     }
 }
 
-// The carriers of an accepted image. What the image itself gives comes first: it says more than what rule 2 of section 1 passes on.
-pub fn fill(image: &[u8], carriers: &mut [usize]) {
-    let mut writers = [0u32; OBJECTS];
-    let mut readers = [0u32; OBJECTS];
-    note_own(image, &mut writers, &mut readers);
-    link_all(&writers, &readers, carriers);
-    derive_all(image, carriers);
-    let mut answers = [0u8; ANSWERS];
-    flow::could_hold(image, &mut answers);
-    note_all(image, &answers, &mut writers, &mut readers);
-    link_all(&writers, &readers, carriers);
+// What carries the direct flow from the row's domain to the column's: what was found first.
+#[derive(Drop)]
+pub struct Carriers {
+    table: Table<Option<Carrier>>,
 }
 
-// The source of an entry, as what REVOKE takes the entry's capability away by.
-fn revoked(image: &[u8], e: usize, buffer: &mut [u8], waiting: usize) -> usize {
-    let f = fields::entry(image, e);
-    text::form(
-        buffer,
-        waiting,
-        b"REVOKE of slot %",
-        &[f.source_slot as u64],
-    )
-}
+impl Carriers {
+    // The carriers of an image. What the image itself gives comes first: it says more than what rule 2 of section 1 passes on.
+    pub fn new(image: Image<'_>) -> Result<Self, Refusal> {
+        let held = Held::new(image)?;
+        let mut carriers = Carriers {
+            table: Table::new(None),
+        };
+        let mut users = Objects::new(Users::default());
+        note_own(&mut users, image);
+        carriers.link(&users);
+        carriers.derive(image);
+        note_held(&mut users, image, &held);
+        carriers.link(&users);
+        Ok(carriers)
+    }
 
-// A carrier, as `mailbox 3`.
-pub fn name(image: &[u8], carrier: usize, buffer: &mut [u8], waiting: usize) -> usize {
-    if carrier == 0 {
-        return waiting;
+    // A carrier from one domain to another, where there is none yet.
+    fn insert(&mut self, from: usize, to: usize, carrier: Carrier) {
+        if from != to && self.get(from, to).is_none() {
+            self.table.set(from, to, Some(carrier));
+        }
     }
-    let number = carrier - 1;
-    if number < MAILBOX {
-        return words::object(buffer, waiting, 1, number as u64);
+
+    // Direct flow over each object.
+    fn link(&mut self, users: &AllUsers) {
+        for kind in KINDS {
+            for (number, users) in users.of(kind).iter().enumerate() {
+                let (from, to) = users.ends(kind);
+                self.join(from, to, Carrier::Object(Object { kind, number }));
+            }
+        }
     }
-    if number < BELL {
-        return words::object(buffer, waiting, 2, (number - MAILBOX) as u64);
+
+    // Direct flow from each of a set to each of another.
+    fn join(&mut self, from: Set, to: Set, carrier: Carrier) {
+        for a in (0..DOMAINS).filter(|d| from.has(*d)) {
+            for b in (0..DOMAINS).filter(|d| to.has(*d)) {
+                self.insert(a, b, carrier);
+            }
+        }
     }
-    if number < OBJECTS {
-        return words::object(buffer, waiting, 3, (number - BELL) as u64);
+
+    // Direct flow by each entry's source.
+    fn derive(&mut self, image: Image<'_>) {
+        for entry in image.entries() {
+            if let Some(source) = entry.source {
+                let carrier = Carrier::Revoke { slot: source.slot };
+                self.insert(source.domain, entry.place.domain, carrier);
+            }
+        }
     }
-    revoked(image, number - OBJECTS, buffer, waiting)
+
+    // What carries the direct flow from one domain to another, if there is one.
+    pub fn get(&self, from: usize, to: usize) -> Option<Carrier> {
+        self.table.get(from, to)?
+    }
+
+    // The rows of the table.
+    pub fn rows(&self) -> Iter<'_, [Option<Carrier>; DOMAINS]> {
+        self.table.rows()
+    }
 }

@@ -1,140 +1,125 @@
-// What the bytes of an image say, and reading and writing by an index that may be any number: past the end there are zeros, and nothing is
-// stored.
-ghost use Rattle.std.specs.Prelude.{◌<◌, ◌≤◌};
+// What the bytes of an image say, and its entries, one after the other.
+ghost use Rattle.std.specs.Prelude.{◌-◌, ◌<◌};
+ghost use Rattle.std.specs.Iterator.{at_most};
 
-use image::Fields;
+use crate::words::{Object, Place};
+use image::{ENTRY, Fields, HEADER, NO_DOMAIN};
+use rules::{Kind, Rights};
+use std::ops::Range;
 
-// The bytes of the longest image.
-pub const LONGEST: usize = 12360;
-
-fn wide(x: u8) -> usize
-    ensures { result < 256 }
-{
-    x as usize
+// The bytes of an image, and the sizes that their header has. The kernel's own `Image` is only of bytes that are long enough.
+#[derive(Clone, Copy)]
+pub struct Image<'a> {
+    pub bytes: &'a [u8],
+    pub domains: u8,
+    pub turns: u8,
+    pub entries: u16,
+    pub frames: u16,
 }
 
-// Byte i.
-pub fn byte(bytes: &[u8], i: usize) -> usize
-    ensures { result < 256 }
-{
-    if i < bytes.len() { wide(bytes[i]) } else { 0 }
-}
-
-// Stores byte i.
-pub fn set_byte(bytes: &mut [u8], i: usize, b: u8) {
-    if i < bytes.len() {
-        bytes[i] = b;
+impl<'a> Image<'a> {
+    // Any bytes. Where they are too few for a header, the sizes are 0.
+    pub fn new(bytes: &'a [u8]) -> Self {
+        let [domains, turns, c1, c2, f1, f2, ..] = bytes
+            .first_chunk::<HEADER>()
+            .copied()
+            .unwrap_or([0; HEADER]);
+        Image {
+            bytes,
+            domains,
+            turns,
+            entries: u16::from_be_bytes([c1, c2]),
+            frames: u16::from_be_bytes([f1, f2]),
+        }
     }
-}
 
-// Number i.
-pub fn number(numbers: &[usize], i: usize) -> usize {
-    if i < numbers.len() { numbers[i] } else { 0 }
-}
-
-// Stores number i.
-pub fn set_number(numbers: &mut [usize], i: usize, x: usize) {
-    if i < numbers.len() {
-        numbers[i] = x;
+    // Where the turns end.
+    pub fn turns_end(&self) -> usize {
+        HEADER + usize::from(self.turns)
     }
-}
 
-// Mask i.
-pub fn mask(masks: &[u32], i: usize) -> u32 {
-    if i < masks.len() { masks[i] } else { 0 }
-}
+    // The first byte of an entry. Entries are counted from 0.
+    pub fn entry_at(&self, number: u16) -> usize
+        ensures { result < 1000000 }
+    {
+        HEADER + usize::from(self.turns).div_ceil(4) * 4 + ENTRY * usize::from(number)
+    }
 
-// Domain d is in a mask.
-pub fn has(mask: u32, d: usize) -> bool {
-    if d < 16 { (mask >> d) % 2 == 1 } else { false }
-}
+    // The fields of an entry, if the image has its bytes.
+    pub fn fields(&self, number: u16) -> Option<Fields> {
+        let bytes = self
+            .bytes
+            .get(self.entry_at(number)..)?
+            .first_chunk::<ENTRY>()?;
+        Some(image::entry(bytes, 0))
+    }
 
-// Puts domain d into mask i.
-pub fn put(masks: &mut [u32], i: usize, d: usize) {
-    if d < 16 {
-        if i < masks.len() {
-            masks[i] = masks[i] | (1 << d);
+    // The entries, up to one that is of no kind.
+    pub fn entries(&self) -> Entries<'a> {
+        Entries {
+            image: *self,
+            numbers: 0..self.entries,
         }
     }
 }
 
-// The number of domains.
-pub fn domains(image: &[u8]) -> usize
-    ensures { result < 256 }
-{
-    byte(image, 0)
+// An entry that is right by itself, with its number among all.
+#[derive(Clone, Copy, Debug)]
+pub struct Entry {
+    pub number: u16,
+    pub place: Place,
+    pub object: Object,
+    pub rights: Rights,
+    pub badge: u32,
+    pub source: Option<Place>,
 }
 
-// The number of turns.
-pub fn turns(image: &[u8]) -> usize
-    ensures { result < 256 }
-{
-    byte(image, 1)
-}
-
-// The number of two bytes at i, high byte first.
-fn two(image: &[u8], i: usize) -> usize
-    requires { i < 65536 }
-    ensures { result < 65536 }
-{
-    byte(image, i) * 256 + byte(image, i + 1)
-}
-
-// The number of entries.
-pub fn entries(image: &[u8]) -> usize
-    ensures { result < 65536 }
-{
-    two(image, 2)
-}
-
-// The number of frames.
-pub fn frames(image: &[u8]) -> usize
-    ensures { result < 65536 }
-{
-    two(image, 4)
-}
-
-// Bytes 6 and 7.
-pub fn rest(image: &[u8]) -> usize {
-    two(image, 6)
-}
-
-// The first byte of entry number e, counted from 0.
-pub fn entry_at(image: &[u8], e: usize) -> usize
-    ensures { result < 1000000 }
-{
-    let first = 8 + (byte(image, 1) + 3) / 4 * 4;
-    if e < 65536 { first + 12 * e } else { first }
-}
-
-// An entry of zeros.
-pub fn none() -> Fields {
-    Fields {
-        domain: 0,
-        slot: 0,
-        kind: 0,
-        rights: 0,
-        object: 0,
-        badge: 0,
-        source_domain: 0,
-        source_slot: 0,
-        last: 0,
+impl Entry {
+    // The entry with these fields, if their kind is one.
+    fn new(number: u16, f: Fields) -> Option<Self> {
+        let kind = Kind::try_from(f.kind).ok()?;
+        Some(Entry {
+            number,
+            place: Place {
+                domain: f.domain as usize,
+                slot: f.slot as usize,
+            },
+            object: Object {
+                kind,
+                number: f.object as usize,
+            },
+            rights: Rights(f.rights),
+            badge: f.badge,
+            source: source(f),
+        })
     }
 }
 
-// Entry number e, counted from 0.
-pub fn entry(image: &[u8], e: usize) -> Fields {
-    let at = entry_at(image, e);
-    if entries(image) <= e {
-        return none();
+// The place of an entry's source, if it has one.
+fn source(f: Fields) -> Option<Place> {
+    if f.source_domain == NO_DOMAIN && f.source_slot == 0 {
+        return None;
     }
-    if image.len() < at + 12 {
-        return none();
-    }
-    image::entry(image, at)
+    Some(Place {
+        domain: f.source_domain as usize,
+        slot: f.source_slot as usize,
+    })
 }
 
-// An entry has a source.
-pub fn has_source(e: Fields) -> bool {
-    (e.source_domain != 255) | (e.source_slot != 0)
+// The entries of an image with these numbers.
+#[derive(Drop)]
+pub struct Entries<'a> {
+    image: Image<'a>,
+    numbers: Range<u16>,
+}
+
+impl<'a> Iterator for Entries<'a> {
+    type Item = Entry;
+
+    ghost remaining = { λ s. at_most (s.numbers.end - s.numbers.start) };
+
+    fn next(&mut self) -> Option<Entry> {
+        let number = self.numbers.next()?;
+        Entry::new(number, self.image.fields(number)?)
+    }
 }

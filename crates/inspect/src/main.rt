@@ -1,15 +1,18 @@
-// Looks at a boot image: the image on standard input, the view as the first argument. Each view has a file of its own, and says `refused N`
-// of what is no image. It asks the proved functions of `flow`, so what it prints of holding and flow is what document 03 defines; that it
-// prints that and nothing else is tested, not proved. Proved of it: it ends, no sum wraps, no index is out of range.
+// Looks at a boot image: the image on standard input, the view as the first argument. Each view has a file of its own. Of what is no image
+// every view says `refused N`, and the report also why. It asks the proved functions of `flow`, so what it prints of holding and flow is
+// what document 03 defines; that it prints that and nothing else is tested, not proved. Proved of it: it ends, no sum wraps, no index is
+// out of range.
 #![tactic(auto)]
 
 mod chains;
 mod closed;
 mod direct;
+mod domains;
 mod dot;
 mod fields;
 mod hold;
 mod matrix;
+mod objects;
 mod refused;
 mod report;
 mod slots;
@@ -17,46 +20,56 @@ mod table;
 mod verdict;
 mod words;
 
+use fields::Image;
+use std::fmt;
+use std::fmt::Write;
 use std::rt::Env;
+use text::Text;
+use verdict::Stop;
 
 // The numbers of standard input and standard error.
 const STDIN_FILENO: i32 = 0;
 
 const STDERR_FILENO: i32 = 2;
 
-// The views, and none of them.
-#[derive(Clone, Copy)]
+// The views.
+#[derive(Clone, Copy, Debug, PartialEq, Eq)]
 enum View {
     Report,
     Dot,
     Matrix,
     Hold,
-    None,
 }
 
-// The view of a word.
-fn view_of(word: &[u8]) -> View {
-    if check::same(word, b"report") {
-        return View::Report;
+impl View {
+    // The view of a word.
+    fn named(word: &[u8]) -> Option<Self> {
+        match word {
+            b"report" => Some(View::Report),
+            b"dot" => Some(View::Dot),
+            b"matrix" => Some(View::Matrix),
+            b"hold" => Some(View::Hold),
+            _ => None,
+        }
     }
-    if check::same(word, b"dot") {
-        return View::Dot;
+
+    // Writes the view of an image, if it is one.
+    fn write(self, image: Image<'_>, out: &mut Text) -> Result<(), Stop> {
+        match self {
+            View::Report => report::show(image, out),
+            View::Dot => dot::show(image, out),
+            View::Matrix => matrix::show(image, out),
+            View::Hold => hold::show(image, out),
+        }
     }
-    if check::same(word, b"matrix") {
-        return View::Matrix;
-    }
-    if check::same(word, b"hold") {
-        return View::Hold;
-    }
-    View::None
 }
 
 // The view of the first argument. A missing argument, and one that is longer than any view's name, is none.
-fn asked(rt: &impl Env) -> View {
+fn asked(rt: &impl Env) -> Option<View> {
     let mut word = [0u8; 16];
     match rt.arg(1, &mut word) {
-        Ok(length) => view_of(&word[..length]),
-        Err(_) => View::None,
+        Ok(length) => View::named(&word[..length]),
+        Err(_) => None,
     }
 }
 
@@ -69,28 +82,32 @@ fn usage() {
 }
 
 // One byte more than the longest image has is enough to refuse a longer one as it would be refused whole.
-const IMAGE: usize = fields::LONGEST + 1;
+const IMAGE: usize = image::IMAGE_MOST + 1;
 
-// Puts a view of an image into the buffer and gives the number of bytes that wait there.
-fn show(view: View, image: &[u8], buffer: &mut [u8]) -> usize {
-    match view {
-        View::Report => report::show(image, buffer),
-        View::Dot => dot::show(image, buffer),
-        View::Matrix => matrix::show(image, buffer),
-        View::Hold => hold::show(image, buffer),
-        View::None => 0,
+// Writes a view of an image, or that it is refused, and in the report also why.
+fn show(view: View, image: Image<'_>, out: &mut Text) -> fmt::Result {
+    match view.write(image, out) {
+        Ok(()) => Ok(()),
+        Err(Stop::Unwritten) => Err(fmt::Error),
+        Err(Stop::Refused(refusal)) => {
+            writeln!(out, "refused {refusal}")?;
+            if view == View::Report {
+                refused::show(image, refusal, out)?;
+            }
+            Ok(())
+        }
     }
 }
 
 fn main(rt: HostRuntime) {
-    let view = asked(&rt);
-    if let View::None = view {
+    let Some(view) = asked(&rt) else {
         usage();
         return;
-    }
+    };
     let mut space = [0u8; IMAGE];
     let length = io::read_full(STDIN_FILENO, &mut space);
-    let mut buffer = io::buffer();
-    let waiting = show(view, &space[..length], &mut buffer);
-    text::flush(&buffer, waiting);
+    let mut out = Text::new();
+    // Text gives no error.
+    let _ = show(view, Image::new(&space[..length]), &mut out);
+    out.flush();
 }

@@ -1,400 +1,275 @@
 // Where and why bytes are refused: a sentence for each refusal, 20 to 26, on the first byte or entry that it applies to. Bytes and entries
-// are counted from 0.
-use crate::fields::LONGEST;
-use crate::{fields, words};
-use image::Fields;
+// are counted from 0. The limits stand in the sentences as the document has them.
+use crate::domains::DOMAINS;
+use crate::fields::{Entry, Image};
+use crate::words::Object;
+use image::{ENTRY, Fields, HEADER, IMAGE_MOST};
+use rules::{Kind, Refusal};
+use std::fmt::Write;
+use std::{fmt, iter};
+use text::Text;
 
-// The places, one for each slot of each domain.
-const PLACES: usize = 1024;
+// The slots of a domain.
+const SLOTS: usize = rules::SLOTS as usize;
 
 // ---- 20 to 22: the header and the length
 
 // The number of bytes.
-fn bytes(image: &[u8], buffer: &mut [u8], waiting: usize) -> usize {
-    if LONGEST < image.len() {
-        return text::form(
-            buffer,
-            waiting,
-            b"there are more bytes than %",
-            &[LONGEST as u64],
-        );
+fn bytes(image: Image<'_>, out: &mut Text) -> fmt::Result {
+    let length = image.bytes.len();
+    if IMAGE_MOST < length {
+        return write!(out, "there are more bytes than {IMAGE_MOST}");
     }
-    text::form(buffer, waiting, b"there are % bytes", &[image.len() as u64])
+    write!(out, "there are {length} bytes")
 }
 
 // 20.
-fn short(image: &[u8], buffer: &mut [u8], waiting: usize) -> usize {
-    let n = bytes(image, buffer, waiting);
-    text::word(buffer, n, b", and the header has 8")
+fn short(image: Image<'_>, out: &mut Text) -> fmt::Result {
+    bytes(image, out)?;
+    write!(out, ", and the header has {HEADER}")
 }
 
 // 21.
-fn sizes(image: &[u8], buffer: &mut [u8], waiting: usize) -> usize {
-    let domains = fields::domains(image);
-    if (domains < 1) | (16 < domains) {
-        return text::form(
-            buffer,
-            waiting,
-            b"byte 0: D is %, not 1 to 16",
-            &[domains as u64],
-        );
+fn sizes(image: Image<'_>, out: &mut Text) -> fmt::Result {
+    if !(1..=16).contains(&image.domains) {
+        return write!(out, "byte 0: D is {}, not 1 to 16", image.domains);
     }
-    let turns = fields::turns(image);
-    if (turns < 1) | (64 < turns) {
-        return text::form(
-            buffer,
-            waiting,
-            b"byte 1: T is %, not 1 to 64",
-            &[turns as u64],
-        );
+    if !(1..=64).contains(&image.turns) {
+        return write!(out, "byte 1: T is {}, not 1 to 64", image.turns);
     }
-    let entries = fields::entries(image);
-    if 1024 < entries {
-        return text::form(
-            buffer,
-            waiting,
-            b"bytes 2 and 3: C is %, not 0 to 1024",
-            &[entries as u64],
-        );
+    if 1024 < image.entries {
+        return write!(out, "bytes 2 and 3: C is {}, not 0 to 1024", image.entries);
     }
-    let frames = fields::frames(image);
-    if (frames < 1) | (256 < frames) {
-        return text::form(
-            buffer,
-            waiting,
-            b"bytes 4 and 5: F is %, not 1 to 256",
-            &[frames as u64],
-        );
+    if !(1..=256).contains(&image.frames) {
+        return write!(out, "bytes 4 and 5: F is {}, not 1 to 256", image.frames);
     }
-    text::word(buffer, waiting, b"bytes 6 and 7 are not 0")
+    write!(out, "bytes 6 and 7 are not 0")
 }
 
 // 22.
-fn length(image: &[u8], buffer: &mut [u8], waiting: usize) -> usize {
-    let n = bytes(image, buffer, waiting);
-    let entries = fields::entries(image);
-    let sizes = [
-        fields::turns(image) as u64,
-        entries as u64,
-        fields::entry_at(image, entries) as u64,
-    ];
-    text::form(buffer, n, b", and T % and C % give %", &sizes)
+fn length(image: Image<'_>, out: &mut Text) -> fmt::Result {
+    bytes(image, out)?;
+    let length = image.entry_at(image.entries);
+    write!(
+        out,
+        ", and T {} and C {} give {length}",
+        image.turns, image.entries
+    )
 }
 
 // ---- 23: the turns
 
-// The first byte from byte from up to byte to that is at least limit, or to where there is none.
-fn first_from(image: &[u8], from: usize, to: usize, limit: usize) -> usize {
-    for i in from..to {
-        if limit <= fields::byte(image, i) {
-            return i;
-        }
-    }
-    to
-}
-
 // 23.
-fn turns(image: &[u8], buffer: &mut [u8], waiting: usize) -> usize {
-    let domains = fields::domains(image);
-    let end = 8 + fields::turns(image);
-    let i = first_from(image, 8, end, domains);
-    if i < end {
-        let those = [i as u64, fields::byte(image, i) as u64, domains as u64];
-        return text::form(
-            buffer,
-            waiting,
-            b"byte %: a turn names domain %, and D is %",
-            &those,
+fn turns(image: Image<'_>, out: &mut Text) -> fmt::Result {
+    let domains = image.domains;
+    let end = image.turns_end();
+    let mut turns = image.bytes.iter().enumerate().take(end).skip(HEADER);
+    if let Some((i, turn)) = turns.find(|(_, turn)| domains <= **turn) {
+        return write!(
+            out,
+            "byte {i}: a turn names domain {turn}, and D is {domains}"
         );
     }
-    let i = first_from(image, end, fields::entry_at(image, 0), 1);
-    let those = [i as u64, fields::byte(image, i) as u64];
-    text::form(buffer, waiting, b"byte %: the padding is %, not 0", &those)
+    let mut padding = image
+        .bytes
+        .iter()
+        .enumerate()
+        .take(image.entry_at(0))
+        .skip(end);
+    if let Some((i, byte)) = padding.find(|(_, byte)| **byte != 0) {
+        return write!(out, "byte {i}: the padding is {byte}, not 0");
+    }
+    Ok(())
 }
 
 // ---- 24: an entry by itself
 
 // Which entry, and its bytes.
-fn entry(image: &[u8], e: usize, buffer: &mut [u8], waiting: usize) -> usize {
-    let at = fields::entry_at(image, e);
-    let those = [e as u64, at as u64, (at + 11) as u64];
-    text::form(buffer, waiting, b"entry %, bytes % to %: ", &those)
-}
-
-// The first entry that is not right by itself, or C.
-fn first_wrong(image: &[u8]) -> usize {
-    let domains = fields::domains(image) as u32;
-    let frames = fields::frames(image) as u32;
-    let entries = fields::entries(image);
-    for e in 0..entries {
-        if !image::entry_right(fields::entry(image, e), domains, frames) {
-            return e;
-        }
-    }
-    entries
+fn name(image: Image<'_>, number: u16, out: &mut Text) -> fmt::Result {
+    let at = image.entry_at(number);
+    write!(out, "entry {number}, bytes {at} to {}: ", at + ENTRY - 1)
 }
 
 // An object that is past the last of its kind, or what is left: the last two bytes.
-fn wrong_object(f: Fields, frames: usize, buffer: &mut [u8], waiting: usize) -> usize {
-    if (f.kind == 1) & (frames <= f.object as usize) {
-        let those = [f.object as u64, frames as u64];
-        return text::form(buffer, waiting, b"it is for frame %, and F is %", &those);
+fn wrong_object(object: Object, frames: u16, out: &mut Text) -> fmt::Result {
+    if object.kind == Kind::Frame && usize::from(frames) <= object.number {
+        return write!(out, "it is for {object}, and F is {frames}");
     }
-    if (f.kind != 1) & (63 < f.object) {
-        let n = text::word(buffer, waiting, b"it is for ");
-        let n = words::object(buffer, n, f.kind, f.object as u64);
-        return text::word(buffer, n, b", and the last is 63");
+    if object.kind != Kind::Frame && 63 < object.number {
+        return write!(out, "it is for {object}, and the last is 63");
     }
-    text::word(buffer, waiting, b"its last two bytes are not 0")
+    write!(out, "its last two bytes are not 0")
 }
 
 // Why an entry is not right by itself, of kind, rights and object.
-fn wrong_right(f: Fields, frames: usize, buffer: &mut [u8], waiting: usize) -> usize {
-    if (f.kind < 1) | (3 < f.kind) {
-        return text::form(
-            buffer,
-            waiting,
-            b"its kind is %, not 1 to 3",
-            &[f.kind as u64],
-        );
-    }
+fn wrong_right(f: Fields, frames: u16, out: &mut Text) -> fmt::Result {
+    let Ok(kind) = Kind::try_from(f.kind) else {
+        return write!(out, "its kind is {}, not 1 to 3", f.kind);
+    };
     if 7 < f.rights {
-        return text::form(
-            buffer,
-            waiting,
-            b"its rights are %, not 0 to 7",
-            &[f.rights as u64],
-        );
+        return write!(out, "its rights are {}, not 0 to 7", f.rights);
     }
-    if (3 < f.rights) & (f.kind != 2) {
-        return text::word(buffer, waiting, b"it has GRANT, and is not for a mailbox");
+    if 3 < f.rights && kind != Kind::Mailbox {
+        return write!(out, "it has GRANT, and is not for a mailbox");
     }
-    wrong_object(f, frames, buffer, waiting)
+    let object = Object {
+        kind,
+        number: f.object as usize,
+    };
+    wrong_object(object, frames, out)
 }
 
 // Why an entry is not right by itself.
-fn wrong(image: &[u8], f: Fields, buffer: &mut [u8], waiting: usize) -> usize {
-    let domains = fields::domains(image);
-    if domains <= f.domain as usize {
-        let those = [f.domain as u64, domains as u64];
-        return text::form(buffer, waiting, b"its domain is %, and D is %", &those);
-    }
-    if 63 < f.slot {
-        return text::form(
-            buffer,
-            waiting,
-            b"its slot is %, and the last is 63",
-            &[f.slot as u64],
+fn wrong(image: Image<'_>, f: Fields, out: &mut Text) -> fmt::Result {
+    if u32::from(image.domains) <= f.domain {
+        return write!(
+            out,
+            "its domain is {}, and D is {}",
+            f.domain, image.domains
         );
     }
-    wrong_right(f, fields::frames(image), buffer, waiting)
+    if 63 < f.slot {
+        return write!(out, "its slot is {}, and the last is 63", f.slot);
+    }
+    wrong_right(f, image.frames, out)
 }
 
 // 24.
-fn entries(image: &[u8], buffer: &mut [u8], waiting: usize) -> usize {
-    let e = first_wrong(image);
-    let n = entry(image, e, buffer, waiting);
-    wrong(image, fields::entry(image, e), buffer, n)
+fn entries(image: Image<'_>, out: &mut Text) -> fmt::Result {
+    let is_wrong = |f: &Fields| {
+        !image::entry_right(*f, u32::from(image.domains), u32::from(image.frames))
+    };
+    let first = (0..image.entries).find_map(|number| Some((
+        number,
+        image.fields(number).filter(is_wrong)?,
+    )));
+    if let Some((number, f)) = first {
+        name(image, number, out)?;
+        wrong(image, f, out)?;
+    }
+    Ok(())
 }
 
 // ---- 25: the order of entries
 
-// The place of an entry, or one past the last.
-fn place(f: Fields) -> usize {
-    if (f.domain < 16) & (f.slot < 64) {
-        return f.domain as usize * 64 + f.slot as usize;
-    }
-    PLACES
-}
-
-// The first entry that does not come after the one before it, or C.
-fn first_fallen(image: &[u8]) -> usize {
-    let entries = fields::entries(image);
-    let mut last = place(fields::entry(image, 0));
-    for e in 1..entries {
-        let here = place(fields::entry(image, e));
-        if here <= last {
-            return e;
-        }
-        last = here;
-    }
-    entries
-}
-
 // 25.
-fn order(image: &[u8], buffer: &mut [u8], waiting: usize) -> usize {
-    let e = first_fallen(image);
-    let f = fields::entry(image, e);
-    let n = entry(image, e, buffer, waiting);
-    let place = [f.slot as u64, f.domain as u64];
-    text::form(
-        buffer,
-        n,
-        b"slot % of domain % does not come after the entry before",
-        &place,
-    )
+fn order(image: Image<'_>, out: &mut Text) -> fmt::Result {
+    let mut pairs = image.entries().zip(image.entries().skip(1));
+    if let Some((_, entry)) = pairs.find(|(before, entry)| entry.place <= before.place) {
+        name(image, entry.number, out)?;
+        write!(out, "{} does not come after the entry before", entry.place)?;
+    }
+    Ok(())
 }
 
 // ---- 26: sources
 
-// For each place the number of the entry for it, counted from 1, or 0.
-fn fill(image: &[u8], index: &mut [usize]) {
-    let entries = fields::entries(image);
-    for e in 0..entries {
-        fields::set_number(index, place(fields::entry(image, e)), e + 1);
-    }
-}
-
-// The number of the entry that defines an entry's source, counted from 1, or 0.
-fn source(index: &[usize], f: Fields) -> usize {
-    if !fields::has_source(f) {
-        return 0;
-    }
-    if (f.source_domain < 16) & (f.source_slot < 64) {
-        return fields::number(
-            index,
-            f.source_domain as usize * 64 + f.source_slot as usize,
-        );
-    }
-    0
-}
-
-// The source of an entry, as an entry.
-fn source_entry(image: &[u8], index: &[usize], f: Fields) -> Fields {
-    let s = source(index, f);
-    if 0 < s {
-        return fields::entry(image, s - 1);
-    }
-    fields::none()
-}
-
 // An entry is for what its source is for, with no right that the source lacks, and with its badge if that isn't 0.
-fn fits(f: Fields, s: Fields) -> bool {
-    (f.kind == s.kind)
-        & (f.object == s.object)
-        & (f.rights & s.rights == f.rights)
-        & ((s.badge == 0) | (f.badge == s.badge))
+fn fits(entry: &Entry, source: &Entry) -> bool {
+    entry.object == source.object
+        && source.rights.have(entry.rights)
+        && (source.badge == 0 || entry.badge == source.badge)
 }
 
-// An entry has no source, or one that an entry defines and that it fits.
-fn tied(image: &[u8], index: &[usize], e: usize) -> bool {
-    let f = fields::entry(image, e);
-    if !fields::has_source(f) {
-        return true;
-    }
-    (0 < source(index, f)) & fits(f, source_entry(image, index, f))
+// For each place the entry for it, if there is one.
+#[derive(Drop)]
+struct Places {
+    entries: [[Option<Entry>; SLOTS]; DOMAINS],
 }
 
-// The number of the source of entry number s, both counted from 1, or 0.
-fn source_of(image: &[u8], index: &[usize], s: usize) -> usize {
-    if s == 0 {
-        return 0;
-    }
-    source(index, fields::entry(image, s - 1))
-}
-
-// Following sources from entry number s, counted from 1, comes back to it.
-fn returns(image: &[u8], index: &[usize], s: usize) -> bool {
-    let mut at = source_of(image, index, s);
-    for i in 0..PLACES {
-        if at == s {
-            return true;
+impl Places {
+    // The places of an image's entries.
+    fn new(image: Image<'_>) -> Self {
+        let mut entries = [[None; SLOTS]; DOMAINS];
+        for entry in image.entries() {
+            let place = entry.place;
+            if place.domain < DOMAINS && place.slot < SLOTS {
+                entries[place.domain][place.slot] = Some(entry);
+            }
         }
-        at = source_of(image, index, at);
+        Places { entries }
     }
-    false
-}
 
-// The first entry whose source is not right.
-fn first_untied(image: &[u8], index: &[usize]) -> usize {
-    let entries = fields::entries(image);
-    for e in 0..entries {
-        if !tied(image, index, e) {
-            return e;
-        }
+    // The source of an entry, if an entry defines it.
+    fn source(&self, entry: &Entry) -> Option<Entry> {
+        let place = entry.source?;
+        *self.entries.get(place.domain)?.get(place.slot)?
     }
-    entries
-}
 
-// The first entry that following sources comes back to.
-fn first_circle(image: &[u8], index: &[usize]) -> usize {
-    let entries = fields::entries(image);
-    for e in 0..entries {
-        if returns(image, index, e + 1) {
-            return e;
-        }
+    // An entry has no source, or one that an entry defines and that it fits.
+    fn ties(&self, entry: &Entry) -> bool {
+        entry.source.is_none()
+            || self
+                .source(entry)
+                .is_some_and(|source| fits(entry, &source))
     }
-    entries
+
+    // Following sources from an entry comes back to it.
+    fn returns(&self, entry: &Entry) -> bool {
+        iter::successors(self.source(entry), |source| self.source(source))
+            .take(SLOTS * DOMAINS)
+            .any(|source| source.place == entry.place)
+    }
 }
 
 // Why an entry does not fit its source.
-fn unfit(f: Fields, s: Fields, buffer: &mut [u8], waiting: usize) -> usize {
-    if (f.kind != s.kind) | (f.object != s.object) {
-        let n = text::word(buffer, waiting, b" is for ");
-        let n = words::object(buffer, n, s.kind, s.object as u64);
-        let n = text::word(buffer, n, b", and it is for ");
-        return words::object(buffer, n, f.kind, f.object as u64);
+fn unfit(entry: &Entry, source: &Entry, out: &mut Text) -> fmt::Result {
+    if entry.object != source.object {
+        return write!(
+            out,
+            " is for {}, and it is for {}",
+            source.object, entry.object
+        );
     }
-    if f.rights & s.rights != f.rights {
-        let n = text::word(buffer, waiting, b" has rights ");
-        let n = words::rights(buffer, n, s.rights);
-        let n = text::word(buffer, n, b", and it has ");
-        return words::rights(buffer, n, f.rights);
+    if !source.rights.have(entry.rights) {
+        return write!(
+            out,
+            " has rights {}, and it has {}",
+            source.rights, entry.rights
+        );
     }
-    let badges = [s.badge as u64, f.badge as u64];
-    text::form(buffer, waiting, b" has badge %, and it has %", &badges)
+    write!(
+        out,
+        " has badge {}, and it has {}",
+        source.badge, entry.badge
+    )
 }
 
-// Why the source of entry e is not right.
-fn untied(image: &[u8], index: &[usize], e: usize, buffer: &mut [u8], waiting: usize) -> usize {
-    let f = fields::entry(image, e);
-    let n = entry(image, e, buffer, waiting);
-    let place = [f.source_slot as u64, f.source_domain as u64];
-    let n = text::form(buffer, n, b"its source, slot % of domain %,", &place);
-    if source(index, f) == 0 {
-        return text::word(buffer, n, b" is no entry's place");
+// Why the source of an entry is not right.
+fn untied(places: &Places, entry: &Entry, out: &mut Text) -> fmt::Result {
+    if let Some(place) = entry.source {
+        write!(out, "its source, {place},")?;
     }
-    unfit(f, source_entry(image, index, f), buffer, n)
+    match places.source(entry) {
+        Some(source) => unfit(entry, &source, out),
+        None => write!(out, " is no entry's place"),
+    }
 }
 
 // 26.
-fn sources(image: &[u8], buffer: &mut [u8], waiting: usize) -> usize {
-    let mut index = [0usize; PLACES];
-    fill(image, &mut index);
-    let e = first_untied(image, &index);
-    if e < fields::entries(image) {
-        return untied(image, &index, e, buffer, waiting);
+fn sources(image: Image<'_>, out: &mut Text) -> fmt::Result {
+    let places = Places::new(image);
+    if let Some(entry) = image.entries().find(|entry| !places.ties(entry)) {
+        name(image, entry.number, out)?;
+        return untied(&places, &entry, out);
     }
-    let e = first_circle(image, &index);
-    let n = entry(image, e, buffer, waiting);
-    text::word(buffer, n, b"following sources from it comes back to it")
-}
-
-// The sentence of a refusal.
-fn sentence(image: &[u8], refusal: u32, buffer: &mut [u8], waiting: usize) -> usize {
-    if refusal == 20 {
-        return short(image, buffer, waiting);
+    if let Some(entry) = image.entries().find(|entry| places.returns(entry)) {
+        name(image, entry.number, out)?;
+        write!(out, "following sources from it comes back to it")?;
     }
-    if refusal == 21 {
-        return sizes(image, buffer, waiting);
-    }
-    if refusal == 22 {
-        return length(image, buffer, waiting);
-    }
-    if refusal == 23 {
-        return turns(image, buffer, waiting);
-    }
-    if refusal == 24 {
-        return entries(image, buffer, waiting);
-    }
-    if refusal == 25 {
-        return order(image, buffer, waiting);
-    }
-    sources(image, buffer, waiting)
+    Ok(())
 }
 
 // The line of a refusal.
-pub fn show(image: &[u8], refusal: u32, buffer: &mut [u8], waiting: usize) -> usize {
-    let n = sentence(image, refusal, buffer, waiting);
-    text::line(buffer, n)
+pub fn show(image: Image<'_>, refusal: Refusal, out: &mut Text) -> fmt::Result {
+    match refusal {
+        Refusal::ImageShort => short(image, out)?,
+        Refusal::ImageSizes => sizes(image, out)?,
+        Refusal::ImageLength => length(image, out)?,
+        Refusal::ImageTurns => turns(image, out)?,
+        Refusal::ImageEntry => entries(image, out)?,
+        Refusal::ImageOrder => order(image, out)?,
+        _ => sources(image, out)?,
+    }
+    writeln!(out)
 }

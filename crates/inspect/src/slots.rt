@@ -1,59 +1,30 @@
 // What each domain has in its slots: the image's entries, a line for each, by domain.
-use crate::{fields, words};
-use image::Fields;
+use crate::fields::{Entry, Image};
+use std::fmt;
+use std::fmt::Write;
+use text::Text;
 
-// A source, where there is one.
-fn source(image: &[u8], e: usize, buffer: &mut [u8], waiting: usize) -> usize {
-    let f = fields::entry(image, e);
-    if !fields::has_source(f) {
-        return waiting;
+// The line of an entry.
+fn line(entry: Entry, out: &mut Text) -> fmt::Result {
+    write!(
+        out,
+        "  slot{:>3}: {} {}, badge {}",
+        entry.place.slot, entry.rights, entry.object, entry.badge
+    )?;
+    if let Some(source) = entry.source {
+        write!(out, ", from {source}")?;
     }
-    let place = [f.source_slot as u64, f.source_domain as u64];
-    text::form(buffer, waiting, b", from slot % of domain %", &place)
-}
-
-// A capability, but for its source.
-fn capability(f: Fields, buffer: &mut [u8], waiting: usize) -> usize {
-    let n = text::word(buffer, waiting, b": ");
-    let n = words::rights(buffer, n, f.rights);
-    let n = text::byte(buffer, n, b' ');
-    let n = words::object(buffer, n, f.kind, f.object as u64);
-    text::form(buffer, n, b", badge %", &[f.badge as u64])
-}
-
-// The line of entry e, where it is the domain's.
-fn entry(image: &[u8], e: usize, domain: usize, buffer: &mut [u8], waiting: usize) -> usize {
-    let f = fields::entry(image, e);
-    if f.domain as usize != domain {
-        return waiting;
-    }
-    let n = text::word(buffer, waiting, b"  slot");
-    let n = text::column(buffer, n, f.slot as u64, 3);
-    let n = capability(f, buffer, n);
-    let n = source(image, e, buffer, n);
-    text::line(buffer, n)
-}
-
-// The lines of a domain.
-fn domain(image: &[u8], domain: usize, buffer: &mut [u8], waiting: usize) -> usize {
-    let mut n = text::form(buffer, waiting, b"domain %\n", &[domain as u64]);
-    let entries = fields::entries(image);
-    for e in 0..entries {
-        n = entry(image, e, domain, buffer, n);
-    }
-    n
+    writeln!(out)
 }
 
 // The lines of all domains.
-pub fn show(image: &[u8], buffer: &mut [u8], waiting: usize) -> usize {
-    let mut n = text::word(
-        buffer,
-        waiting,
-        b"\ncapabilities: r READ, w WRITE, g GRANT\n",
-    );
-    let domains = fields::domains(image);
-    for d in 0..domains {
-        n = domain(image, d, buffer, n);
+pub fn show(image: Image<'_>, out: &mut Text) -> fmt::Result {
+    writeln!(out, "\ncapabilities: r READ, w WRITE, g GRANT")?;
+    for domain in 0..usize::from(image.domains) {
+        writeln!(out, "domain {domain}")?;
+        for entry in image.entries().filter(|e| e.place.domain == domain) {
+            line(entry, out)?;
+        }
     }
-    n
+    Ok(())
 }

@@ -1,27 +1,29 @@
-// Words that several views write.
+// What an entry speaks of, and how the views write it: objects and places.
+use rules::Kind;
+use std::fmt;
 
-// An object, as `mailbox 3`.
-pub fn object(buffer: &mut [u8], waiting: usize, kind: u32, object: u64) -> usize {
-    if kind == 1 {
-        return text::form(buffer, waiting, b"frame %", &[object]);
-    }
-    if kind == 2 {
-        return text::form(buffer, waiting, b"mailbox %", &[object]);
-    }
-    text::form(buffer, waiting, b"bell %", &[object])
+// An object.
+#[derive(Clone, Copy, Debug, PartialEq, Eq)]
+pub struct Object {
+    pub kind: Kind,
+    pub number: usize,
 }
 
-// A letter where there is a right, else a dash.
-fn letter(buffer: &mut [u8], waiting: usize, right: u32, letter: u8) -> usize {
-    if right == 1 {
-        return text::byte(buffer, waiting, letter);
+impl fmt::Display for Object {
+    fn fmt<W: fmt::Write>(&self, f: &mut fmt::Formatter<W>) -> fmt::Result {
+        write!(f, "{} {}", self.kind, self.number)
     }
-    text::byte(buffer, waiting, b'-')
 }
 
-// Rights as letters: READ, WRITE, GRANT.
-pub fn rights(buffer: &mut [u8], waiting: usize, rights: u32) -> usize {
-    let n = letter(buffer, waiting, rights % 2, b'r');
-    let n = letter(buffer, n, rights / 2 % 2, b'w');
-    letter(buffer, n, rights / 4 % 2, b'g')
+// Where a capability is. The order of places is that of an image's entries.
+#[derive(Clone, Copy, Debug, PartialEq, Eq, PartialOrd, Ord)]
+pub struct Place {
+    pub domain: usize,
+    pub slot: usize,
+}
+
+impl fmt::Display for Place {
+    fn fmt<W: fmt::Write>(&self, f: &mut fmt::Formatter<W>) -> fmt::Result {
+        write!(f, "slot {} of domain {}", self.slot, self.domain)
+    }
 }

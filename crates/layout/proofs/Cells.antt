@@ -10,11 +10,11 @@ use native.Mathlib.Decide.{le_ind}
 use lib.Dec.{eqb, leb, ltb}
 use lib.ListN.{length, get_or, set}
 use lib.Seq.{get_or-set_same, get_or-set_other}
-use borrow.Author.Tests.{ltb-true, ltb-false, lt-ltb, le-ltb, le-leb, lt-leb, eqb-true, eq-eqb, ne_eqb}
+use borrow.Author.Tests.{ltb-true, ltb-false, lt-ltb, le-ltb, le-leb, lt-leb, eqb-true, eq-eqb}
 use Rattle.rules.proofs.Places.{same?}
 use Rattle.rules.specs.Sizes.{frames_most, places, bells, mailboxes, turns_most, frame_words}
 use Rattle.rules.specs.State.{whose}
-use Rattle.layout.specs.Layout.{size, base, cells, listed, of_cells, state_of, Headed, frames_at, words_of, need, HEAD, KIND, RIGHTS, OBJECT, BADGE, SOURCE, BELLS, FULL, FROM, W0, W1, W2, W3}
+use Rattle.layout.specs.Layout.{size, base, cells, listed, of_cells, state_of, Headed, frames_at, words_of, words_for, need, HEAD, KIND, RIGHTS, OBJECT, BADGE, SOURCE, BELLS, FULL, FROM, W0, W1, W2, W3}
 
 -- a word of a region
 pub cells_at : (m : List ℕ) (r i : ℕ) → i < size r → cells m r i ≡ get_or m (base r + i) 0
@@ -108,19 +108,20 @@ pub source_law : (m : List ℕ) (p : ℕ) → p < places → get_or m (4420 + p)
 unfolding state_of of_cells size base
 source_law m p h = sym (cells_at m SOURCE p h)
 
-pub word_at : (m : List ℕ) (f w : ℕ) → f < get_or m 1 0 → w < frame_words → f < 2 ^ 32 → get_or m (5956 + f * 256 + w) 0 ≡ (state_of m).word f w
+pub word_in : (m : List ℕ) (f w : ℕ) → f < get_or m 1 0 → w < frame_words → f < 2 ^ 32 → get_or m (frames_at + (f * frame_words + w)) 0 ≡ (state_of m).word f w
 unfolding state_of of_cells cells size base
-word_at m f w h g l =
-    rw (lt-ltb f (get_or m 1 0) h, lt-ltb w frame_words g, lt-ltb (f * 256 + w) (2 ^ 64) (omega arith))
-    (ap (λ k. get_or m k 0) (let e : 5956 + f * 256 + w ≡ 5956 + (f * 256 + w) = omega arith in e))
+word_in m f w h g l = rw (lt-ltb f (get_or m 1 0) h, lt-ltb w frame_words g, lt-ltb (f * 256 + w) (2 ^ 64) (omega arith))
 
-pub word-past : (m : List ℕ) (f w : ℕ) → get_or m 1 0 ≤ f → 0 ≡ (state_of m).word f w
+word-past : (m : List ℕ) (f w : ℕ) → get_or m 1 0 ≤ f → 0 ≡ (state_of m).word f w
 unfolding state_of of_cells cells size base
 word-past m f w h = rw (le-ltb f (get_or m 1 0) h)
 
 pub word_beyond : (m : List ℕ) (f w : ℕ) → frame_words ≤ w → 0 ≡ (state_of m).word f w
 unfolding state_of of_cells cells size base
 word_beyond m f w h = rw (le-ltb w frame_words h) (sym (neither _ (ltb f (get_or m 1 0))))
+
+pub word_outside : (m : List ℕ) (f w : ℕ) → (f < get_or m 1 0 × frame_words ≤ w) ⊎ (get_or m 1 0 ≤ f) → 0 ≡ (state_of m).word f w
+word_outside m f w = ⊎_elim (λ b. word_beyond m f w b.1) (word-past m f w)
 
 pub bell_at : (m : List ℕ) (b : ℕ) → b < bells → get_or m (5508 + b) 0 ≡ (state_of m).bell b
 unfolding state_of of_cells size base
@@ -186,58 +187,39 @@ turn_at m i h g =
     sym (listed_at (λ k. cond (ltb k turns_most) (get_or m (4 + k) 0) 0) (get_or m 2 0) 0 i h
     ∙ rw (let e : 0 + i ≡ i = omega arith in e, lt-ltb i turns_most g))
 
-pub turn-past : (m : List ℕ) (i : ℕ) → get_or m 2 0 ≤ i → 0 ≡ get_or (state_of m).turns i 0
+turn-past : (m : List ℕ) (i : ℕ) → get_or m 2 0 ≤ i → 0 ≡ get_or (state_of m).turns i 0
 unfolding state_of of_cells cells size base
 turn-past m i h = sym (listed-past (λ k. cond (ltb k turns_most) (get_or m (4 + k) 0) 0) (get_or m 2 0) 0 i h)
 
-pub turn_beyond : (m : List ℕ) (i : ℕ) → i < get_or m 2 0 → turns_most ≤ i → 0 ≡ get_or (state_of m).turns i 0
+turn_beyond : (m : List ℕ) (i : ℕ) → i < get_or m 2 0 → turns_most ≤ i → 0 ≡ get_or (state_of m).turns i 0
 unfolding state_of of_cells cells size base
 turn_beyond m i h g =
     sym (listed_at (λ k. cond (ltb k turns_most) (get_or m (4 + k) 0) 0) (get_or m 2 0) 0 i h
     ∙ rw (let e : 0 + i ≡ i = omega arith in e, le-ltb i turns_most g))
 
--- the turn at the position, in the same three ways
-whose_law : (m : List ℕ) → whose (state_of m) ≡ get_or (state_of m).turns (get_or m 3 0) 0
+pub turn_outside : (m : List ℕ) (i : ℕ) → (i < get_or m 2 0 × turns_most ≤ i) ⊎ (get_or m 2 0 ≤ i) → 0 ≡ get_or (state_of m).turns i 0
+turn_outside m i = ⊎_elim (λ b. turn_beyond m i b.0 b.1) (turn-past m i)
+
+-- the turn at the position
+pub whose_law : (m : List ℕ) → get_or (state_of m).turns (get_or m 3 0) 0 ≡ whose (state_of m)
 unfolding state_of of_cells cells size base whose
 whose_law m = refl
-
-pub whose_at : (m : List ℕ) → get_or m 3 0 < get_or m 2 0 → get_or m 3 0 < turns_most → get_or m (4 + get_or m 3 0) 0 ≡ whose (state_of m)
-whose_at m h g = turn_at m (get_or m 3 0) h g ∙ sym (whose_law m)
-
-pub whose-past : (m : List ℕ) → get_or m 2 0 ≤ get_or m 3 0 → 0 ≡ whose (state_of m)
-whose-past m h = turn-past m (get_or m 3 0) h ∙ sym (whose_law m)
-
-pub whose_beyond : (m : List ℕ) → get_or m 3 0 < get_or m 2 0 → turns_most ≤ get_or m 3 0 → 0 ≡ whose (state_of m)
-whose_beyond m h g = turn_beyond m (get_or m 3 0) h g ∙ sym (whose_law m)
 
 -- D, F, T and the position, as they stand in memory
 pub head_read : (m : List ℕ) → Headed (state_of m) (record { domains = get_or m 0 0; frames = get_or m 1 0; turns = get_or m 2 0; position = get_or m 3 0 })
 unfolding state_of of_cells cells size base
 head_read m = record { domains = refl; frames = refl; turns = sym (length-listed _ (get_or m 2 0) 0); position = refl }
 
--- the next position: on by one, and from the last to the first
-pub on_by_one : (at t : ℕ) → at + 1 < t → at + 1 ≡ cond (eqb (suc at) t) 0 (suc at)
-on_by_one at t h = rw (ne_eqb (suc at) t (λ e. omega arith)) (omega arith)
-
-pub to_the_first : (at t : ℕ) → at < t → t ≤ at + 1 → 0 ≡ cond (eqb (suc at) t) 0 (suc at)
-to_the_first at t h g = rw (eq-eqb (suc at) t (omega arith))
-
 -- the words that a number of frames takes
-pub words_none : 0 ≡ words_of 0
+pub words_in : (n : ℕ) → 1 ≤ n → n ≤ frames_most → words_for n ≡ words_of n
 unfolding words_of
-words_none = refl
+words_in n h g = rw (lt-ltb 0 n (omega arith), le-leb n frames_most g)
 
-pub words_some : (n : ℕ) → (n ≡ 0 → ⊥) → n ≤ frames_most → 5956 + 256 * n ≡ words_of n
+pub words_outside : (n : ℕ) → (1 ≤ n × frames_most < n) ⊎ (n < 1) → 0 ≡ words_of n
 unfolding words_of
-words_some n h g = rw (lt-ltb 0 n (omega arith), le-leb n frames_most g)
+words_outside n =
+    ⊎_elim (λ b. rw (lt-leb n frames_most b.1) (sym (neither _ (ltb 0 n)))) (λ h. rw (le-ltb 0 n (let g = h in omega arith)))
 
-pub words-past : (n : ℕ) → frames_most < n → 0 ≡ words_of n
-unfolding words_of
-words-past n h = rw (lt-leb n frames_most h) (sym (neither _ (ltb 0 n)))
-
--- memory that is too short even for no frame, and the test of any other
-pub short_law : (m : List ℕ) → length m < frames_at → false ≡ leb (need m) (length m)
-short_law m h = sym (lt-leb (need m) (length m) (omega arith))
-
+-- the test of memory
 pub enough_law : (m : List ℕ) → leb (5956 + 256 * get_or m 1 0) (length m) ≡ leb (need m) (length m)
 enough_law m = ap (λ n. leb (5956 + 256 * n) (length m)) (sym (frames_law m))

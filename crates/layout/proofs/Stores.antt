@@ -16,7 +16,7 @@ use Rattle.rules.proofs.Places.{same?}
 use Rattle.rules.specs.Turn.{set as set_at, advance}
 use Rattle.rules.specs.declared.Capability.{Capability}
 use Rattle.rules.specs.declared.Message.{Message}
-use Rattle.layout.specs.Layout.{size, base, cells, of_cells, state_of, need, Enough, HEAD, TURNS, KIND, RIGHTS, OBJECT, BADGE, SOURCE, BELLS, FULL, FROM, W0, W1, W2, W3, FRAMES}
+use Rattle.layout.specs.Layout.{size, base, cells, of_cells, state_of, frames_at, need, Enough, HEAD, TURNS, KIND, RIGHTS, OBJECT, BADGE, SOURCE, BELLS, FULL, FROM, W0, W1, W2, W3, FRAMES}
 use Rattle.layout.specs.Stored.{Stored, placed, resourced, handed, worded, belled, mailed, Placed, Cleared}
 use Rattle.layout.proofs.Cells.{put, cells_at, cells-set, frames_law, head_law, length-listed}
 
@@ -174,12 +174,10 @@ word_cells c f w v h g = λ i. record {
     go a b false u p q = word_other f w a b v _ (ltb a (c HEAD 1)) g (λ x y. eqb-false a f p x)
 
 pub word_law : (m : List ℕ) (f w v : ℕ) → Enough m → f < get_or m 1 0 → w < frame_words → f < 2 ^ 32
-    → Stored ((f < (state_of m).frames) × (w < frame_words)) (worded f w v) m (set m (5956 + f * 256 + w) v)
+    → Stored ((f < (state_of m).frames) × (w < frame_words)) (worded f w v) m (set m (frames_at + (f * frame_words + w)) v)
 unfolding size base worded
 word_law m f w v e h g l =
     let n = frames_law m in
-    let k : 5956 + f * 256 + w ≡ 5956 + (f * 256 + w) = omega arith in
-    subst (λ j. Stored ((f < (state_of m).frames) × (w < frame_words)) (worded f w v) m (set m j v)) (sym k)
     (wrote-stored (wrote-set e FRAMES (f * frame_words + w) v (omega arith) (omega arith) (wrote_none m))
     (word_cells (cells m) f w v (subst (λ x. f < x) (sym (head_law m)) h) g) refl)
 

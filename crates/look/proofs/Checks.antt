@@ -1,9 +1,9 @@
 -- The laws by which a way through the code of an operation is seen to be the rules' way, whatever the operation: the checks in order, how
 -- an operation ends, and what the tests come to. The proof of an operation opens its rule and searches with the set checks.
 -- Assumes nothing.
-use mathlib.Core.Path.{◌≡◌, refl, sym, ◌∙◌}
+use mathlib.Core.Path.{◌≡◌, refl, ◌∙◌}
 use mathlib.Core.Bool.{Bool, true, false, not, ◌&&◌, ◌||◌}
-use Prim.Native.Nat.{ℕ, zero, suc, ◌<◌}
+use Prim.Native.Nat.{ℕ, zero, suc, ◌+◌, ◌<◌}
 use native.Mathlib.Nat.{le_of_lt}
 use native.Mathlib.Omega.{arith}
 use lib.Dec.{eqb, leb}
@@ -15,17 +15,47 @@ use Rattle.rules.specs.declared.Capability.{Capability}
 use Rattle.rules.specs.declared.Message.{Message}
 use Rattle.rules.specs.declared.Answer.{Answer}
 use Rattle.rules.specs.declared.Effect.{Effect}
-use Rattle.look.specs.Looks.{Decides, Looks, refused_by}
-use Rattle.look.specs.declared.Decided.{Decided}
-use Rattle.look.specs.declared.Looked.{Looked}
+use Rattle.rules.specs.declared.Decision.{Decision}
+use Rattle.rules.specs.declared.Refusal.{Refusal}
+use Rattle.rules.specs.declared.Refusal.TheVariants.{NoOperation, NoSlot, EmptySlot, WrongKind, NoRight, OutOfRange, TakenSlot, MailboxFull, MailboxEmpty, ImageShort, ImageSizes, ImageLength, ImageTurns, ImageEntry, ImageOrder, ImageSource, Unwritable, BufferShort, TooShort}
+use Rattle.rules.specs.Refusal.{number_of}
+use Rattle.look.specs.Looks.{Decides, Looks, seen}
+use Rattle.std.specs.Prelude.{Result, Ok, Err, IsErrAnd}
+use Rattle.std.proofs.lemmas.Result.{err_from_is_err_and}
 
 -- ---- checks in order
 
+-- a refusal is not 0
+pub refused_number : (x : Refusal) → (k : ℕ) × (number_of x ≡ suc k)
+refused_number NoOperation = (0, refl)
+refused_number NoSlot = (1, refl)
+refused_number EmptySlot = (2, refl)
+refused_number WrongKind = (3, refl)
+refused_number NoRight = (4, refl)
+refused_number OutOfRange = (5, refl)
+refused_number TakenSlot = (6, refl)
+refused_number MailboxFull = (7, refl)
+refused_number MailboxEmpty = (8, refl)
+refused_number ImageShort = (19, refl)
+refused_number ImageSizes = (20, refl)
+refused_number ImageLength = (21, refl)
+refused_number ImageTurns = (22, refl)
+refused_number ImageEntry = (23, refl)
+refused_number ImageOrder = (24, refl)
+refused_number ImageSource = (25, refl)
+refused_number Unwritable = (26, refl)
+refused_number BufferShort = (27, refl)
+refused_number TooShort = (28, refl)
+
 -- the first refusal stands, whatever is checked after it
-pub stands : (k e : ℕ) (b : Bool) (n : ℕ) → eqb k 0 ≡ false → k ≡ e → k ≡ (e then b else n)
+pub stands : (x : Refusal) (e : ℕ) (b : Bool) (n : ℕ) → number_of x ≡ e → number_of x ≡ (e then b else n)
 unfolding ◌then◌else◌
-stands zero e b n h p = absurd (eqb-false 0 0 h refl)
-stands (suc k) e b n h p = rw (← p)
+stands x e b n h = let p = refused_number x in rw (← h, p.1)
+
+pub stands_at : (k e : ℕ) (b : Bool) (n : ℕ) → eqb k 0 ≡ false → k ≡ e → k ≡ (e then b else n)
+unfolding ◌then◌else◌
+stands_at zero e b n h p = absurd (eqb-false 0 0 h refl)
+stands_at (suc k) e b n h p = rw (← p)
 
 -- a check that refuses
 pub refuses : (e : ℕ) (b : Bool) (n : ℕ) → 0 ≡ e → b ≡ false → n ≡ (e then b else n)
@@ -33,30 +63,31 @@ unfolding ◌then◌else◌
 refuses e b n p q = rw (← p, q)
 
 -- a check that lets the operation go on
-pub goes_on : (k e : ℕ) (b : Bool) (n : ℕ) → k ≡ e → b ≡ true → k ≡ (e then b else n)
+pub goes_on : (e : ℕ) (b : Bool) (n : ℕ) → 0 ≡ e → b ≡ true → 0 ≡ (e then b else n)
 unfolding ◌then◌else◌
-goes_on zero e b n p q = rw (← p, q)
-goes_on (suc k) e b n p q = rw (← p)
-
--- a slot that was looked up
-pub looked_up : {r : Looked} (s : State) (d x e v : ℕ) → Looks r s d x e v → r.refusal ≡ 0 → 0 ≡ e
-looked_up s d x e v l z = sym z ∙ l.refusal
-
--- a refusal is not 0
-pub never : {A : Type 0} (k : ℕ) → eqb k 0 ≡ false → k ≡ 0 → A
-never k h e = absurd (eqb-false k 0 h e)
+goes_on e b n p q = rw (← p, q)
 
 -- ---- the end of an operation: refused, or done
 
-module _ {r : Decided} {visits : ℕ} (e : ℕ) (f : Effect) (a : Answer) where
-  pub is_refused : {k v : ℕ} → (r.decision ≡ refused_by k) × (r.visits ≡ v) → eqb k 0 ≡ false → k ≡ e → v ≡ visits → Decides r (conclude e f a) visits
+module _ {v before looked : ℕ} (e : ℕ) (f : Effect) (a : Answer) where
+  pub is_refused : (x : Refusal) → number_of x ≡ e → v ≡ before + looked → Decides (Err x) v (conclude e f a) before looked
   unfolding conclude
-  is_refused {k = zero} p h q l = absurd (eqb-false 0 0 h refl)
-  is_refused {k = suc k} p h q l = record { decision = p.0 ∙ rw (← q); visits = p.1 ∙ l }
+  is_refused x q l = let p = refused_number x in record { decision = rw (← q, p.1); visits = l }
 
-  pub is_done : 0 ≡ e → r.decision ≡ record { effect = f; answer = a } → r.visits ≡ visits → Decides r (conclude e f a) visits
+  pub is_done : {r : Decision} → 0 ≡ e → r ≡ record { effect = f; answer = a } → v ≡ before + looked → Decides (Ok r) v (conclude e f a) before looked
   unfolding conclude
   is_done q p l = record { decision = p ∙ rw (← q); visits = l }
+
+-- ---- an operation that only looks slot x up: what looking it up was refused with; and its end
+
+module _ (f : Effect) (a : Answer) {s : State} {d x e before after : ℕ} where
+  pub looked_refused : {r : Result Decision Refusal} {y : Refusal} → IsErrAnd r (λ z. z ≡ y) → Looks (Err y) after s d x e before
+      → Decides r after (conclude e f a) before (seen x)
+  looked_refused {r} q l = let p = err_from_is_err_and r q in rw (p.1, p.2) (is_refused _ _ _ _ l.refusal l.visits)
+
+  pub looked_done : {r : Decision} {k : Capability} → Looks (Ok k) after s d x e before → r ≡ record { effect = f; answer = a }
+      → Decides (Ok r) after (conclude e f a) before (seen x)
+  looked_done l p = is_done _ _ _ l.refusal p l.visits
 
 -- ---- tests: what each comes to, from what the code found
 
@@ -128,7 +159,7 @@ module _ (c h : Capability) where
   unfolding present
   not_full_law s g n i e = rw (← e, ← i, eq-eqb g.full 0 n)
 
-pub ruleset order = (stands, refuses, goes_on, looked_up)
+pub ruleset order = (stands, stands_at, refuses, goes_on)
 
 pub ruleset tests = (not_yes, not_no, either, first_of, neither, both, not_first, not_second, ne_eqb, lt-ltb, le-ltb, le-leb, lt-leb, below-leb, is_within, not_within)
 

@@ -1,15 +1,16 @@
 -- The laws of the visits that the checks of every operation share: of a slot that is looked up, and of what comes after checks.
 -- Assumes nothing.
-use mathlib.Core.Path.{◌≡◌, refl}
+use mathlib.Core.Path.{◌≡◌}
 use mathlib.Core.Bool.{Bool, true, false, cond}
 use Prim.Native.Nat.{ℕ, zero, suc, ◌+◌, ◌≤◌, ◌<◌}
 use native.Mathlib.Omega.{arith}
-use lib.Dec.{eqb, ltb}
-use borrow.Author.Tests.{lt-ltb, le-ltb, eqb-false}
+use lib.Dec.{ltb}
+use borrow.Author.Tests.{lt-ltb, le-ltb}
 use Rattle.rules.specs.Sizes.{slots}
-use Rattle.rules.specs.State.{State}
-use Rattle.look.specs.Looks.{Looks, seen, unless}
-use Rattle.look.specs.declared.Looked.{Looked}
+use Rattle.look.specs.Looks.{seen, unless}
+use Rattle.rules.specs.Refusal.{number_of}
+use Rattle.rules.specs.declared.Refusal.{Refusal}
+use Rattle.look.proofs.Checks.{refused_number}
 
 module _ (v a : ℕ) where
   -- no slot: nothing more is visited; a slot: it is
@@ -22,18 +23,13 @@ module _ (v a : ℕ) where
   seen_yes x h e = rw (lt-ltb x slots h) e
 
   -- after checks that came to e, which was a refusal; and which was none
-  pub unless-refused : (n : ℕ) {k e : ℕ} → eqb k 0 ≡ false → k ≡ e → v ≡ a → v ≡ a + unless e n
+  pub unless-refused : (n : ℕ) {e : ℕ} (x : Refusal) → number_of x ≡ e → v ≡ a → v ≡ a + unless e n
   unfolding unless
-  unless-refused n {k = zero} h q p = absurd (eqb-false 0 0 h refl)
-  unless-refused n {k = suc k} h q p = rw (← q) (omega arith)
+  unless-refused n x q p = let k = refused_number x in rw (← q, k.1) (omega arith)
 
   pub unless-done : (n : ℕ) {e : ℕ} → 0 ≡ e → v ≡ a + n → v ≡ a + unless e n
   unfolding unless
   unless-done n q p = rw (← q) p
-
--- a slot that was looked up first
-pub at_slot : {k : Looked} {s : State} {d x e : ℕ} → Looks k s d x e 0 → k.visits ≡ seen x
-at_slot l = let a = l.visits in omega arith
 
 -- ---- at most
 

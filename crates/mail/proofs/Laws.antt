@@ -1,10 +1,10 @@
 -- The laws by which the ways through SEND's and RECEIVE's checks are the rules' ways, and of their visits. Assumes nothing.
-use mathlib.Core.Path.{◌≡◌, refl, sym, ap, ◌∙◌}
+use mathlib.Core.Path.{◌≡◌, refl, ap, ◌∙◌}
 use mathlib.Core.Bool.{Bool, true, false, cond, ◌&&◌}
 use mathlib.Core.List.{List}
 use Prim.Native.Nat.{ℕ, ◌+◌, ◌≤◌, ◌<◌}
 use native.Mathlib.Omega.{arith}
-use lib.Dec.{eqb, ltb}
+use lib.Dec.{ltb}
 use lib.Bits.{bit_and}
 use borrow.Author.Tests.{lt-ltb, le-ltb, eq-eqb, ne_eqb, ltb-true}
 use Rattle.rules.specs.Sizes.{slots, mailboxes}
@@ -14,13 +14,13 @@ use Rattle.rules.specs.declared.Capability.{Capability}
 use Rattle.rules.specs.declared.Message.{Message}
 use Rattle.rules.specs.declared.Effect.TheVariants.{Take, Move}
 use Rattle.layout.specs.Layout.{size, cells, of_cells, state_of}
-use Rattle.look.specs.Looks.{Decides, Looks, refused_by}
-use Rattle.look.specs.declared.Decided.{Decided}
-use Rattle.look.specs.declared.Looked.{Looked}
+use Rattle.rules.specs.Refusal.{number_of, status_of}
+use Rattle.rules.specs.declared.Refusal.{Refusal}
+use Rattle.look.specs.Looks.{Decides, Looks, seen}
 use Rattle.look.proofs.Checks.{checks, is_refused}
-use Rattle.look.proofs.Visits.{at_slot, unless-refused, unless-done, one_most, seen_most, unless-most}
-use Rattle.mail.specs.Mail.{Carries, Takes, seen_along, seen_taking, checks_along, checks_receive, looks_send, looks_receive}
-use Rattle.mail.specs.declared.Taken.{Taken}
+use Rattle.look.proofs.Visits.{unless-refused, unless-done, one_most, seen_most, unless-most}
+use Rattle.mail.specs.Mail.{Carries, Moves, effect_for, flag_for, seen_along, seen_taking, checks_along, checks_receive, looks_send, looks_receive}
+use Rattle.std.specs.Prelude.{Option, Some, None, Result, Ok, Err}
 
 -- a mailbox that holds a message is one of those that there are
 pub full-low : (m : List ℕ) (b : ℕ) (g : Message) → (g.full ≡ 0 → ⊥) → g ≡ (state_of m).message b → b < mailboxes
@@ -31,10 +31,10 @@ full-low m b g n e = go (ltb b mailboxes) refl
     go true q = ltb-true b mailboxes q
     go false q = absurd (n (ap (λ y. y.full) e ∙ rw q))
 
--- the checks of SEND's argument c, after those of its slot
-pub carried : {k a : Looked} {s : State} {d x c v u : ℕ} → Looks k s d x (slot_for_refusal s d x MAILBOX WRITE) v → k.refusal ≡ 0
-    → Carries a s d c k.capability.rights u → a.refusal ≡ checks_along s d c (held s d x).rights (slot_for_refusal s d x MAILBOX WRITE)
-carried l z m = let h = l.capability z in let i = l.refusal in let j = m.refusal in cc
+-- the checks of SEND's argument c, after those of its slot, which holds k
+pub carried : {r : Result Capability Refusal} {k : Capability} {s : State} {d x c v w u y : ℕ} → Looks (Ok k) w s d x (slot_for_refusal s d x MAILBOX WRITE) v
+    → Carries r y s d c k.rights u → status_of r ≡ checks_along s d c (held s d x).rights (slot_for_refusal s d x MAILBOX WRITE)
+carried l m = let h = l.capability in let i = l.refusal in let j = m.refusal in cc
 
 -- ---- visits
 
@@ -87,41 +87,66 @@ module _ (s : State) (d m t : ℕ) where
   unfolding moves
   moves-there c a n g h k e = search checks
 
-  pub takes_still : {r : Taken} {v before : ℕ} → moves s d m t ≡ false → (r.effect ≡ Take m) × (r.flag ≡ 0) × (r.visits ≡ v)
-      → v ≡ before + seen_taking s m t → Takes r s d m t before
-  takes_still e p g = record { effect = rw e p.0; flag = rw e p.1; visits = p.2 ∙ g }
+  pub moves_no : {v before : ℕ} → moves s d m t ≡ false → v ≡ before + seen_taking s m t → Moves None v s d m t before
+  moves_no e g = record { to = rw e; visits = g }
 
-  pub takes_moves : {r : Taken} {v before : ℕ} → moves s d m t ≡ true → (r.effect ≡ Move m (slot d t)) × (r.flag ≡ 1) × (r.visits ≡ v)
-      → v ≡ before + seen_taking s m t → Takes r s d m t before
-  takes_moves e p g = record { effect = rw e p.0; flag = rw e p.1; visits = p.2 ∙ g }
+  pub moves_yes : {v before : ℕ} → moves s d m t ≡ true → v ≡ before + seen_taking s m t → Moves (Some (slot d t)) v s d m t before
+  moves_yes e g = record { to = rw e; visits = g }
 
--- ---- the operations, whose slot x the code has looked up as k
+-- what RECEIVE does, by where what is under way moves to
+module _ {r : Option ℕ} {s : State} {d m t v before : ℕ} (h : Moves r v s d m t before) where
+  pub effect_taken : effect_for m r ≡ cond (moves s d m t) (Move m (slot d t)) (Take m)
+  effect_taken = rw h.to (go (moves s d m t))
+    where
+      go : (b : Bool) → effect_for m (cond b (Some (slot d t)) None) ≡ cond b (Move m (slot d t)) (Take m)
+      go true = refl
+      go false = refl
 
-module _ {k : Looked} {s : State} {d x e : ℕ} (l : Looks k s d x e 0) where
-  -- the slot is refused; and it is not, and what goes along was looked up
-  pub send-refused : (c : ℕ) → e ≡ slot_for_refusal s d x MAILBOX WRITE → (k.refusal ≡ 0 → ⊥) → k.visits ≡ looks_send s d x c
+  pub flag_taken : flag_for r ≡ cond (moves s d m t) 1 0
+  flag_taken = rw h.to (go (moves s d m t))
+    where
+      go : (b : Bool) → flag_for (cond b (Some (slot d t)) None) ≡ cond b 1 0
+      go true = refl
+      go false = refl
+
+-- ---- the operations, whose slot x was looked up
+
+module _ {s : State} {d x before after : ℕ} where
+  -- the slot is refused; and it holds k, and what goes along was looked up
+  pub send-refused : (y : Refusal) (c : ℕ) → Looks (Err y) after s d x (slot_for_refusal s d x MAILBOX WRITE) before → after ≡ before + looks_send s d x c
   unfolding looks_send
-  send-refused c i h = unless-refused _ _ _ (ne_eqb _ 0 h) (l.refusal ∙ i) (at_slot l)
+  send-refused y c l =
+      let a = l.visits in
+      let u = unless-refused after (before + seen x) (seen_along c (held s d x).rights) y l.refusal a in
+      omega arith
 
-  pub send-seen : {a : Looked} {c : ℕ} → e ≡ slot_for_refusal s d x MAILBOX WRITE → k.refusal ≡ 0 → Carries a s d c k.capability.rights k.visits
-      → a.visits ≡ looks_send s d x c
+  pub send-seen : {k : Capability} {r : Result Capability Refusal} {c v : ℕ} → Looks (Ok k) after s d x (slot_for_refusal s d x MAILBOX WRITE) before
+      → Carries r v s d c k.rights after → v ≡ before + looks_send s d x c
   unfolding looks_send
-  send-seen {c = c} i z m =
-      unless-done _ _ _ (sym z ∙ l.refusal ∙ i)
-      (let a = (at_slot l) in let g = m.visits in let h = ap (λ y. seen_along c y.rights) (l.capability z) in omega arith)
+  send-seen {c = c} {v = v} l m =
+      let a = l.visits in
+      let g = m.visits in
+      let h = ap (λ y. seen_along c y.rights) l.capability in
+      let u = unless-done v (before + seen x) (seen_along c (held s d x).rights) l.refusal (omega arith) in
+      omega arith
 
-  -- refused; and taken
-  pub receive-refused : {r : Decided} {n : ℕ} (t : ℕ) → e ≡ slot_for_refusal s d x MAILBOX READ → (r.decision ≡ refused_by n) × (r.visits ≡ k.visits) → eqb n 0 ≡ false
-      → n ≡ checks_receive s d x t → Decides r (receive s d x t) (looks_receive s d x t)
-  unfolding receive looks_receive
-  receive-refused t i p h q = is_refused _ _ _ p h q (unless-refused _ _ _ h q (at_slot l))
-
-  pub receive-taken : {y : Taken} {t : ℕ} → e ≡ slot_for_refusal s d x MAILBOX READ → k.refusal ≡ 0 → 0 ≡ checks_receive s d x t → Takes y s d k.capability.object t k.visits
-      → y.visits ≡ looks_receive s d x t
+  pub receive-taken : {k : Capability} {r : Option ℕ} {t v : ℕ} → Looks (Ok k) after s d x (slot_for_refusal s d x MAILBOX READ) before → 0 ≡ checks_receive s d x t
+      → Moves r v s d k.object t after → v ≡ before + looks_receive s d x t
   unfolding looks_receive
-  receive-taken {t = t} i z q m =
-      unless-done _ _ _ q
-      (let a = (at_slot l) in let g = m.visits in let h = ap (λ y. seen_taking s y.object t) (l.capability z) in omega arith)
+  receive-taken {t = t} {v} l q m =
+      let a = l.visits in
+      let g = m.visits in
+      let h = ap (λ y. seen_taking s y.object t) l.capability in
+      let u = unless-done v (before + seen x) (seen_taking s (held s d x).object t) q (omega arith) in
+      omega arith
+
+-- RECEIVE refused, after its slot was looked up
+pub receive-refused : (s : State) (d x before after : ℕ) (y : Refusal) (t : ℕ) → number_of y ≡ checks_receive s d x t → after ≡ before + seen x
+    → Decides (Err y) after (receive s d x t) before (looks_receive s d x t)
+unfolding receive looks_receive
+receive-refused s d x before after y t q a =
+    is_refused _ _ _ y q
+    (let u = unless-refused after (before + seen x) (seen_taking s (held s d x).object t) y q a in omega arith)
 
 -- ---- at most
 

@@ -1,15 +1,17 @@
 -- The contracts of SEND's and RECEIVE's checks: what goes along, what is taken, and how many places they visit, exactly, on any state.
 -- Assumes nothing.
-use Rattle.std.specs.Prelude.{◌≡◌, cond, not, ◌&&◌, ◌||◌, ℕ, ◌+◌, leb}
+use Rattle.std.specs.Prelude.{◌≡◌, cond, not, ◌&&◌, ◌||◌, ℕ, ◌+◌, leb, Option, Some, None, Result, IfOk}
 use Rattle.rules.specs.Sizes.{slots}
 use Rattle.rules.specs.State.{State, MAILBOX, READ, WRITE, GRANT, within, slot, room, nothing}
 use Rattle.rules.specs.Turn.{◌then◌else◌, held, holds, full, slot_for_refusal, goes, copied, moves}
 use Rattle.rules.specs.declared.Message.{Message}
 use Rattle.rules.specs.declared.Operation.{Operation}
+use Rattle.rules.specs.Refusal.{status_of}
+use Rattle.rules.specs.declared.Capability.{Capability}
+use Rattle.rules.specs.declared.Effect.{Effect}
 use Rattle.rules.specs.declared.Effect.TheVariants.{Take, Move}
+use Rattle.rules.specs.declared.Refusal.{Refusal}
 use Rattle.look.specs.Looks.{seen, unless}
-use Rattle.look.specs.declared.Looked.{Looked}
-use Rattle.mail.specs.declared.Taken.{Taken}
 
 -- the message of a SEND
 abbrev pub message_of : Operation → ℕ → Message
@@ -32,17 +34,25 @@ checks_along s d c rights e =
 abbrev pub checks_receive : State → ℕ → ℕ → ℕ → ℕ
 checks_receive s d x t = slot_for_refusal s d x MAILBOX READ then leb t slots else 2 then full (s.message (held s d x).object) else 9
 
--- what goes along from slot c of domain d was looked up with those checks, after so many visits
-pub record Carries (r : Looked) (s : State) (d c rights before : ℕ) : Type 0 where
-  pub refusal : r.refusal ≡ checks_along s d c rights 0
-  pub capability : r.refusal ≡ 0 → r.capability ≡ cond (goes c) (copied (held s d c) (slot d c)) nothing
-  pub visits : r.visits ≡ before + seen_along c rights
+-- what goes along from slot c of domain d was looked up with those checks, its visits from before on
+pub record Carries (r : Result Capability Refusal) (after : ℕ) (s : State) (d c rights before : ℕ) : Type 0 where
+  pub refusal : status_of r ≡ checks_along s d c rights 0
+  pub capability : IfOk r (λ x. x ≡ cond (goes c) (copied (held s d c) (slot d c)) nothing)
+  pub visits : after ≡ before + seen_along c rights
 
--- what a RECEIVE by domain d from mailbox m with argument t does was found, after so many visits
-pub record Takes (r : Taken) (s : State) (d m t before : ℕ) : Type 0 where
-  pub effect : r.effect ≡ cond (moves s d m t) (Move m (slot d t)) (Take m)
-  pub flag : r.flag ≡ cond (moves s d m t) 1 0
-  pub visits : r.visits ≡ before + seen_taking s m t
+-- where a RECEIVE by domain d from mailbox m with argument t moves what is under way was found, its visits from before on
+pub record Moves (r : Option ℕ) (after : ℕ) (s : State) (d m t before : ℕ) : Type 0 where
+  pub to : r ≡ cond (moves s d m t) (Some (slot d t)) None
+  pub visits : after ≡ before + seen_taking s m t
+
+-- what a RECEIVE from mailbox m does, where what is under way moves there, and its flag
+abbrev pub effect_for : ℕ → Option ℕ → Effect
+effect_for m (Some p) = Move m p
+effect_for m None = Take m
+
+abbrev pub flag_for : Option ℕ → ℕ
+flag_for (Some p) = 1
+flag_for None = 0
 
 -- the visits of SEND, and of RECEIVE
 unfoldable pub looks_send : State → ℕ → ℕ → ℕ → ℕ

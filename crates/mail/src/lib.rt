@@ -1,17 +1,17 @@
 // The checks of the operations on mailboxes, SEND and RECEIVE: they read memory and give an effect and an answer.
 #![tactic(auto)]
 
-ghost use Rattle.std.specs.Prelude.{◌≡◌, ◌≤◌, ◌<◌};
-ghost use Rattle.rules.specs.Sizes.{domains_most, all_slots, slots, mailboxes};
+ghost use Rattle.std.specs.Prelude.{◌≡◌, ◌<◌};
+ghost use Rattle.rules.specs.Sizes.{all_slots, mailboxes};
 ghost use Rattle.rules.specs.Turn.{send as send_rule, receive as receive_rule, copied as copied_rule};
-ghost use Rattle.layout.specs.Layout.{state_of, Enough};
+ghost use Rattle.layout.specs.Layout.{state_of};
 ghost use Rattle.look.specs.Looks.{Decides};
-ghost use Rattle.mail.specs.Mail.{Carries, Takes, message_of, looks_send, looks_receive};
+ghost use Rattle.mail.specs.Mail.{Carries, Moves, message_of, effect_for, flag_for, looks_send, looks_receive};
 
-use look::{Decided, Looked, done, nothing, refused, slot_for};
+use look::{Acting, done};
 use rules::{
-    ALL_SLOTS, Answer, Capability, Decision, Effect, GRANT, MAILBOX, Message, Operation, READ,
-    SLOTS, WRITE,
+    ALL_SLOTS, Answer, Capability, Decision, Effect, GRANT, Kind, Message, Operation, READ,
+    Refusal, SLOTS, WRITE,
 };
 
 // The message that SEND makes of its operation, under that badge.
@@ -34,150 +34,90 @@ fn copied(c: Capability, place: u32) -> Capability
     ensures { result ≡ copied_rule c place }
 {
     Capability {
-        kind: c.kind,
-        rights: c.rights,
-        object: c.object,
-        badge: c.badge,
         source: place + 1,
+        ..c
     }
 }
 
-// What goes along from slot c of domain d in a SEND by a capability with those rights: nothing where c is 64. At most one visit.
-fn along(mem: &[u32], d: u32, c: u32, rights: u32, visits: u32) -> Looked
-    requires enough { Enough mem.now }
-    requires d_in_range { d < domains_most }
-    requires visits_left { visits < 8 }
-    ensures { Carries result (state_of mem.now) d c rights visits }
+// What goes along from slot c in a SEND by a capability with those rights: nothing where c is 64. At most one visit.
+fn along(who: &Acting<'_>, c: u32, rights: u32, visits: &mut u32) -> Result<Capability, Refusal>
+    requires visits_left { visits.old < 8 }
+    ensures { Carries result visits.new (state_of who.now.memory.words.now) who.now.domain c rights visits.old }
 {
-    if c >= SLOTS {
-        if c > SLOTS {
-            return Looked {
-                refusal: 2,
-                capability: nothing(),
-                visits,
-            };
-        }
-        return Looked {
-            refusal: 0,
-            capability: nothing(),
-            visits,
-        };
+    if c > SLOTS {
+        return Err(Refusal::NoSlot);
+    }
+    if c == SLOTS {
+        return Ok(Capability::NOTHING);
     }
     if (GRANT & rights) != GRANT {
-        return Looked {
-            refusal: 5,
-            capability: nothing(),
-            visits,
-        };
+        return Err(Refusal::NoRight);
     }
-    let seen = layout::see(mem, d * SLOTS + c, visits);
-    if seen.capability.kind == 0 {
-        return Looked {
-            refusal: 3,
-            capability: nothing(),
-            visits: seen.visits,
-        };
+    let place = who.domain * SLOTS + c;
+    let held = who.memory.see(place, visits);
+    if held.kind == 0 {
+        return Err(Refusal::EmptySlot);
     }
-    Looked {
-        refusal: 0,
-        capability: copied(seen.capability, d * SLOTS + c),
-        visits: seen.visits,
-    }
+    Ok(copied(held, place))
 }
 
-pub fn send(mem: &[u32], d: u32, op: Operation) -> Decided
-    requires enough { Enough mem.now }
-    requires d_in_range { d < domains_most }
-    ensures { Decides result (send_rule (state_of mem.now) d op.first op.second op.third op.fourth op.fifth op.sixth) (looks_send (state_of mem.now) d op.first op.second) }
+pub fn send(who: &Acting<'_>, op: Operation, visits: &mut u32) -> Result<Decision, Refusal>
+    requires visits_left { visits.old < 4 }
+    ensures { Decides result visits.new (send_rule (state_of who.now.memory.words.now) who.now.domain op.first op.second op.third op.fourth op.fifth op.sixth) visits.old (looks_send (state_of who.now.memory.words.now) who.now.domain op.first op.second) }
 {
-    let k = slot_for(mem, d, op.first, MAILBOX, WRITE);
-    if k.refusal != 0 {
-        return refused(k.refusal, k.visits);
+    let s = who.slot_for(op.first, Kind::Mailbox, WRITE, visits)?;
+    let c = along(who, op.second, s.rights, visits)?;
+    if who.memory.message(s.object).full != 0 {
+        return Err(Refusal::MailboxFull);
     }
-    let s = k.capability;
-    let a = along(mem, d, op.second, s.rights, k.visits);
-    if a.refusal != 0 {
-        return refused(a.refusal, a.visits);
-    }
-    if layout::message(mem, s.object).full != 0 {
-        return refused(8, a.visits);
-    }
-    let c = a.capability;
-    done(Effect::Post(s.object, written(op, s.badge), c), 0, a.visits)
+    Ok(done(Effect::Post(s.object, written(op, s.badge), c), 0))
 }
 
-// What becomes of a capability under way, the flag that says so, and the visits so far.
-#[derive(Clone, Copy)]
-pub struct Taken {
-    pub effect: Effect,
-    pub flag: u32,
-    pub visits: u32,
-}
-
-fn taking(effect: Effect, flag: u32, visits: u32) -> Taken
-    ensures { (result.effect ≡ effect) × (result.flag ≡ flag) × (result.visits ≡ visits) }
-{
-    Taken {
-        effect,
-        flag,
-        visits,
-    }
-}
-
-// Taking from mailbox m, with t for the capability under way: it moves where there is one and t is an empty slot. At most two visits.
-fn take(mem: &[u32], d: u32, m: u32, t: u32, visits: u32) -> Taken
-    requires enough { Enough mem.now }
-    requires d_in_range { d < domains_most }
+// Where the capability under way in mailbox m moves to, for slot argument t: nowhere where there is none, or t is no empty slot. At most
+// two visits.
+fn moves_to(who: &Acting<'_>, m: u32, t: u32, visits: &mut u32) -> Option<u32>
     requires m_in_range { m < mailboxes }
-    requires visits_left { visits < 8 }
-    ensures { Takes result (state_of mem.now) d m t visits }
+    requires visits_left { visits.old < 8 }
+    ensures { Moves result visits.new (state_of who.now.memory.words.now) who.now.domain m t visits.old }
 {
     if t >= SLOTS {
-        return taking(Effect::Take(m), 0, visits);
+        return None;
     }
-    let under = layout::see(mem, ALL_SLOTS + m, visits);
-    if under.capability.kind == 0 {
-        return taking(Effect::Take(m), 0, under.visits);
+    if who.memory.see(ALL_SLOTS + m, visits).kind == 0 {
+        return None;
     }
-    let to = layout::see(mem, d * SLOTS + t, under.visits);
-    if to.capability.kind != 0 {
-        return taking(Effect::Take(m), 0, to.visits);
+    let place = who.domain * SLOTS + t;
+    if who.memory.see(place, visits).kind != 0 {
+        return None;
     }
-    taking(Effect::Move(m, d * SLOTS + t), 1, to.visits)
+    Some(place)
 }
 
-pub fn receive(mem: &[u32], d: u32, x: u32, t: u32) -> Decided
-    requires enough { Enough mem.now }
-    requires d_in_range { d < domains_most }
-    ensures { Decides result (receive_rule (state_of mem.now) d x t) (looks_receive (state_of mem.now) d x t) }
+// What RECEIVE from mailbox m does, where what is under way moves there; and the flag that says whether a capability came along.
+fn taken(m: u32, to: Option<u32>) -> (Effect, u32)
+    ensures { (result.0 ≡ effect_for m to) × (result.1 ≡ flag_for to) }
 {
-    let k = slot_for(mem, d, x, MAILBOX, READ);
-    if k.refusal != 0 {
-        return refused(k.refusal, k.visits);
+    match to {
+        Some(place) => (Effect::Move(m, place), 1),
+        None => (Effect::Take(m), 0),
     }
+}
+
+pub fn receive(who: &Acting<'_>, x: u32, t: u32, visits: &mut u32) -> Result<Decision, Refusal>
+    requires visits_left { visits.old < 4 }
+    ensures { Decides result visits.new (receive_rule (state_of who.now.memory.words.now) who.now.domain x t) visits.old (looks_receive (state_of who.now.memory.words.now) who.now.domain x t) }
+{
+    let m = who.slot_for(x, Kind::Mailbox, READ, visits)?.object;
     if t > SLOTS {
-        return refused(2, k.visits);
+        return Err(Refusal::NoSlot);
     }
-    let m = k.capability.object;
-    let g = layout::message(mem, m);
+    let g = who.memory.message(m);
     if g.full == 0 {
-        return refused(9, k.visits);
+        return Err(Refusal::MailboxEmpty);
     }
-    let y = take(mem, d, m, t, k.visits);
-    let effect = y.effect;
-    Decided {
-        decision: Decision {
-            effect,
-            answer: Answer {
-                status: 0,
-                w0: g.badge,
-                w1: g.w0,
-                w2: g.w1,
-                w3: g.w2,
-                w4: g.w3,
-                w5: y.flag,
-            },
-        },
-        visits: y.visits,
-    }
+    let (effect, flag) = taken(m, moves_to(who, m, t, visits));
+    Ok(Decision {
+        effect,
+        answer: Answer::of(g.badge, g.w0, g.w1, g.w2, g.w3, flag),
+    })
 }

@@ -9,16 +9,12 @@ ghost use Rattle.boot.specs.Booted.{Booted};
 ghost use Rattle.flow.specs.Answer.{Flows, Held};
 ghost use Rattle.meterkernel.specs.Entries.{operation_words, answer_words, operation_in, Told, TurnCalled, WriteCalled};
 
-use rules::{Answer, Operation};
-use write::Written;
+use rules::{Answer, Operation, Refusal, number, status};
 
 // An operation's words, and those of an answer beside its status.
 const OPERATION: usize = 8;
 
 const ANSWER: usize = 6;
-
-// The refusal of memory, an operation or an answer that is too short.
-const TOO_SHORT: u32 = 29;
 
 // The words of memory that a state with so many frames takes; 0 where frames is out of range.
 #[unsafe(no_mangle)]
@@ -33,7 +29,7 @@ pub extern "C" fn mk_words(frames: u32) -> usize
 pub extern "C" fn mk_boot(image: &[u8], mem: &mut [u32]) -> u32
     ensures { Booted image.now mem.old result mem.new }
 {
-    boot::read(image, mem)
+    status(boot::read(image, mem))
 }
 
 // The domain whose turn is next; 29, which is no domain, where memory is too short.
@@ -41,7 +37,7 @@ pub extern "C" fn mk_boot(image: &[u8], mem: &mut [u32]) -> u32
 pub extern "C" fn mk_whose(mem: &[u32]) -> u32
     ensures { Whose mem.now result }
 {
-    turn::whose(mem)
+    number(turn::whose(mem))
 }
 
 // The operation that the words say.
@@ -79,25 +75,12 @@ fn tell(words: &mut [u32], a: Answer)
 pub extern "C" fn mk_turn(mem: &mut [u32], op: &[u32], answer: &mut [u32]) -> u32
     ensures { TurnCalled mem.old op.now answer.old mem.new answer.new result }
 {
-    if op.len() < OPERATION {
-        return TOO_SHORT;
-    }
-    if answer.len() < ANSWER {
-        return TOO_SHORT;
-    }
-    if !layout::enough(mem) {
-        return TOO_SHORT;
+    if op.len() < OPERATION || answer.len() < ANSWER || !layout::enough(mem) {
+        return Refusal::TooShort.number();
     }
     let t = turn::turn(mem, operation(op));
     tell(answer, t.answer);
     t.answer.status
-}
-
-// A size where the image was written, else the number that stood there.
-fn sized(w: Written, before: u32) -> u32
-    ensures { ((w.status ≡ 0) → result ≡ w.size) × ((w.status ≡ 0 → ⊥) → result ≡ before) }
-{
-    if w.status == 0 { w.size } else { before }
 }
 
 // The image of the state in memory, and its size: 0; or 29 where memory is too short, 27 where no image describes the state, 28 where the
@@ -106,9 +89,11 @@ fn sized(w: Written, before: u32) -> u32
 pub extern "C" fn mk_write(mem: &[u32], image: &mut [u8], size: &mut u32) -> u32
     ensures { WriteCalled mem.now image.old size.old result image.new size.new }
 {
-    let w = write::write(mem, image);
-    *size = sized(w, *size);
-    w.status
+    let written = write::write(mem, image);
+    if let Ok(bytes) = written {
+        *size = bytes;
+    }
+    status(written)
 }
 
 // Who can reach whom, by an image: 1 or 0 at from * D + to; or the image's refusal, or 28 where matrix is shorter than D * D.
@@ -116,7 +101,7 @@ pub extern "C" fn mk_write(mem: &[u32], image: &mut [u8], size: &mut u32) -> u32
 pub extern "C" fn mk_flow(image: &[u8], matrix: &mut [u8]) -> u32
     ensures { Flows image.now matrix.old result matrix.new }
 {
-    flow::flow(image, matrix)
+    status(flow::flow(image, matrix))
 }
 
 // What each domain could ever hold, by an image: 1 or 0 at domain * C + entry; or the image's refusal, or 28 where rows is shorter.
@@ -124,5 +109,5 @@ pub extern "C" fn mk_flow(image: &[u8], matrix: &mut [u8]) -> u32
 pub extern "C" fn mk_could_hold(image: &[u8], rows: &mut [u8]) -> u32
     ensures { Held image.now rows.old result rows.new }
 {
-    flow::could_hold(image, rows)
+    status(flow::could_hold(image, rows))
 }

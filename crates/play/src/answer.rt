@@ -1,84 +1,37 @@
 // The line of a turn: `DOMAIN OPERATION: 0`, with the words that the operation answers, or `DOMAIN OPERATION: refusal N`.
-ghost use Rattle.std.specs.Prelude.{◌≤◌};
-
-use crate::desk;
+use crate::call::Call;
 use rules::Answer;
-use words::Word;
+use std::fmt;
+use std::fmt::Write;
+use text::Text;
 
-// A word of the trace, as it is written there.
-fn copy(line: &[u8], word: Word, buffer: &mut [u8], waiting: usize) -> usize {
-    let mut n = waiting;
-    let mut i = word.start;
-    while i < word.end {
-        n = text::byte(buffer, n, words::byte(line, i));
-        i += 1;
+// `DOMAIN OPERATION`, as it is called, with the arguments that are given.
+fn called(out: &mut Text, domain: u32, call: &Call<'_>) -> fmt::Result {
+    write!(out, "{domain} ")?;
+    for b in call.name {
+        out.byte(*b);
     }
-    n
-}
-
-// A blank and a number.
-fn number(buffer: &mut [u8], waiting: usize, value: u32) -> usize {
-    let n = text::byte(buffer, waiting, b' ');
-    text::number(buffer, n, value as u64)
-}
-
-// The arguments, as many as were given.
-fn arguments(desk: &[usize], buffer: &mut [u8], waiting: usize) -> usize {
-    let count = desk::count(desk);
-    let mut n = waiting;
-    for i in 0..count {
-        n = number(buffer, n, desk::argument(desk, i + 1));
+    for argument in call.arguments.iter().flatten() {
+        write!(out, " {argument}")?;
     }
-    n
+    Ok(())
 }
 
-// `DOMAIN OPERATION`
-pub fn operation(
-    line: &[u8],
-    first: Word,
-    desk: &[usize],
-    domain: u32,
-    buffer: &mut [u8],
-    waiting: usize,
-) -> usize {
-    let n = text::number(buffer, waiting, domain as u64);
-    let n = text::byte(buffer, n, b' ');
-    let n = copy(line, first, buffer, n);
-    arguments(desk, buffer, n)
-}
-
-// How many words an operation answers.
-fn answered(operation: u32) -> usize
-    ensures { result ≤ 6 }
-{
-    match operation {
-        1 | 7 => 1,
-        9 => 6,
-        10 => 4,
-        _ => 0,
-    }
-}
-
-// The first words of an answer.
-fn values(values: &[u32; 6], count: usize, buffer: &mut [u8], waiting: usize) -> usize
-    requires { count ≤ 6 }
-{
-    let mut n = waiting;
-    for k in 0..count {
-        n = number(buffer, n, values[k]);
-    }
-    n
-}
-
-// `: 0`, with the words, or `: refusal N`, and the end of the line.
-pub fn answer(operation: u32, a: Answer, buffer: &mut [u8], waiting: usize) -> usize {
+// `: 0`, with that many words, or `: refusal N`, and the end of the line.
+fn answered(out: &mut Text, count: usize, a: Answer) -> fmt::Result {
     if 0 < a.status {
-        let n = text::word(buffer, waiting, b": refusal");
-        let n = number(buffer, n, a.status);
-        return text::line(buffer, n);
+        return write!(out, ": refusal {}\n", a.status);
     }
-    let n = text::word(buffer, waiting, b": 0");
-    let all = [a.w0, a.w1, a.w2, a.w3, a.w4, a.w5];
-    let n = values(&all, answered(operation), buffer, n);
-    text::line(buffer, n)
+    write!(out, ": 0")?;
+    let words = [a.w0, a.w1, a.w2, a.w3, a.w4, a.w5];
+    for word in words.iter().take(count) {
+        write!(out, " {word}")?;
+    }
+    write!(out, "\n")
+}
+
+// The whole line.
+pub fn write(out: &mut Text, domain: u32, call: &Call<'_>, answer: Answer) -> fmt::Result {
+    called(out, domain, call)?;
+    answered(out, call.answered(), answer)
 }

@@ -1,112 +1,57 @@
-// A line of the trace: an operation's name or number, and its arguments.
-use crate::desk;
-use words::Word;
+// The line of the trace that is read: its bytes so far, and its number.
+ghost use Rattle.std.specs.Prelude.{◌≤◌};
 
-// How many operations have names.
-const NAMES: usize = 11;
+use crate::fault::{Complaint, Fault};
 
-// The greatest word.
-const GREATEST: usize = 4294967295;
+// The longest line.
+const LONGEST: usize = 1024;
 
-// The number of the first of these names that is that word; words::NONE where none is.
-fn find(names: &[u8], line: &[u8], word: Word) -> usize {
-    let mut at = 0;
-    for number in 0..NAMES {
-        let name = words::next(names, at);
-        if words::same(line, word, names, name) {
-            return number;
+// The first bytes are those of the line, of which there are `length`: it stands beside them, as memory is fixed. The first line has number 1.
+#[derive(Drop)]
+pub struct Line {
+    bytes: [u8; LONGEST],
+    length: usize,
+    number: usize,
+    ghost fits: { length ≤ 1024 },
+}
+
+impl Line {
+    // The first line, of which nothing is read.
+    pub fn first() -> Self {
+        Line {
+            bytes: [0; LONGEST],
+            length: 0,
+            number: 1,
         }
-        at = name.end;
     }
-    words::NONE
-}
 
-// The operation that a word names, or whose number it is; more than GREATEST where it is neither.
-fn operation(line: &[u8], word: Word) -> usize {
-    let number = find(
-        b"IDLE LOAD STORE DERIVE DELETE REVOKE RING HEAR SEND RECEIVE LOOK",
-        line,
-        word,
-    );
-    if number < NAMES {
-        return number;
+    // The next line, of which nothing is read.
+    pub fn begin_next(&mut self) {
+        self.length = 0;
+        self.number = self.number.saturating_add(1);
     }
-    words::number(line, word)
-}
 
-// Something is wrong with a word: the answers so far are written, the message is said, and that is the end.
-pub fn stop(line: &[u8], desk: &mut [usize], buffer: &[u8], word: Word, message: &[u8]) {
-    text::flush(buffer, desk::get(desk, desk::WAITING));
-    desk::put(desk, desk::WAITING, 0);
-    words::complain(line, desk::get(desk, desk::LINES), word, message);
-    desk::put(desk, desk::STOPPED, 1);
-}
-
-// The next word of the line, which is passed.
-fn next(line: &[u8], desk: &mut [usize]) -> Word {
-    let word = words::next(line, desk::get(desk, desk::AT));
-    desk::put(desk, desk::AT, word.end);
-    word
-}
-
-// The number of a word is that argument.
-fn argument(line: &[u8], desk: &mut [usize], buffer: &[u8], i: usize, word: Word) {
-    let value = words::number(line, word);
-    if GREATEST < value {
-        stop(
-            line,
-            desk,
-            buffer,
+    // Something is wrong with a word, or with the whole line.
+    pub fn wrong<'a>(&self, word: Option<&'a [u8]>, fault: Fault) -> Complaint<'a> {
+        Complaint {
+            line: Some(self.number),
             word,
-            b"a number from 0 to 4294967295 is wanted here\n",
-        );
-        return;
-    }
-    if i < desk::ARGUMENTS {
-        desk::put(desk, desk::OPERATION + 1 + i, value);
-        desk::put(desk, desk::COUNT, i + 1);
-        return;
-    }
-    stop(
-        line,
-        desk,
-        buffer,
-        word,
-        b"an operation has at most seven arguments\n",
-    );
-}
-
-// The arguments, up to the line's end or to what is wrong.
-fn arguments(line: &[u8], desk: &mut [usize], buffer: &[u8]) {
-    for i in 0..desk::WORDS {
-        let word = next(line, desk);
-        if words::is_none(word) {
-            return;
-        }
-        argument(line, desk, buffer, i, word);
-        if 0 < desk::get(desk, desk::STOPPED) {
-            return;
+            fault,
         }
     }
-}
 
-// No operation and no arguments.
-fn clear(desk: &mut [usize]) {
-    desk::put(desk, desk::COUNT, 0);
-    for i in 0..desk::WORDS {
-        desk::put(desk, desk::OPERATION + i, 0);
+    // A byte more. A comma counts as a blank.
+    pub fn add(&mut self, b: u8) -> Result<(), Complaint<'static>> {
+        if self.length >= LONGEST {
+            return Err(self.wrong(None, Fault::LongLine));
+        }
+        self.bytes[self.length] = if b == b',' { b' ' } else { b };
+        self.length += 1;
+        Ok(())
     }
-}
 
-// Reads the operation of a line that begins with that word.
-pub fn read(line: &[u8], desk: &mut [usize], buffer: &[u8], first: Word) {
-    let number = operation(line, first);
-    if GREATEST < number {
-        stop(line, desk, buffer, first, b"there is no such operation\n");
-        return;
+    // What is read of it.
+    pub fn text(&self) -> &[u8] {
+        &self.bytes[..self.length]
     }
-    clear(desk);
-    desk::put(desk, desk::OPERATION, number);
-    desk::put(desk, desk::AT, first.end);
-    arguments(line, desk, buffer);
 }

@@ -4,9 +4,8 @@
 // big-endian. The memory that it takes does not grow with the number of operations.
 #![tactic(auto)]
 
-ghost use Rattle.std.specs.Prelude.{◌≡◌, ◌+◌, ◌*◌, ◌≤◌, ◌<◌, min, length};
-
-use rules::Operation;
+use rules::{Operation, Refusal, number, status};
+use std::array;
 use std::rt::Env;
 
 // The numbers of standard input and standard output.
@@ -14,138 +13,92 @@ const STDIN_FILENO: i32 = 0;
 
 const STDOUT_FILENO: i32 = 1;
 
+// The bytes that are read at once.
 const CHUNK: usize = 4096;
 
-fn wide(x: u8) -> u32
-    ensures { result < 256 }
-{
-    x as u32
-}
+// The bytes of an operation, and of a line of the answers.
+const LINE: usize = 32;
 
-// The number at byte i.
-fn number(b: &[u8], i: usize) -> u32
-    requires { i + 4 ≤ length b.now }
-{
-    wide(b[i]) * 16777216 + wide(b[i + 1]) * 65536 + wide(b[i + 2]) * 256 + wide(b[i + 3])
-}
-
-// The number v at byte i.
-fn put(b: &mut [u8], i: usize, v: u32)
-    requires { i + 4 ≤ length b.old }
-    ensures { length b.new ≡ length b.old }
-{
-    b[i] = (v / 16777216) as u8;
-    b[i + 1] = (v / 65536 % 256) as u8;
-    b[i + 2] = (v / 256 % 256) as u8;
-    b[i + 3] = (v % 256) as u8;
-}
-
-// The operation at byte i.
-fn operation(b: &[u8], i: usize) -> Operation
-    requires { i + 32 ≤ length b.now }
-{
+// The operation that bytes say.
+fn operation(bytes: &[u8; LINE]) -> Operation {
+    let (words, _) = bytes.as_chunks::<4>();
+    let [number, first, second, third, fourth, fifth, sixth, seventh]: [u32; 8] = array::from_fn(
+        |i| u32::from_be_bytes(words[i]),
+    );
     Operation {
-        number: number(b, i),
-        first: number(b, i + 4),
-        second: number(b, i + 8),
-        third: number(b, i + 12),
-        fourth: number(b, i + 16),
-        fifth: number(b, i + 20),
-        sixth: number(b, i + 24),
-        seventh: number(b, i + 28),
+        number,
+        first,
+        second,
+        third,
+        fourth,
+        fifth,
+        sixth,
+        seventh,
     }
 }
 
-// A line of the answers at byte i.
-fn line(output: &mut [u8], i: usize, words: &[u32; 8])
-    requires { i + 32 ≤ length output.old }
-    ensures { length output.new ≡ length output.old }
-{
-    let mut k = 0;
-    while k < 8 {
-        put(output, i + 4 * k, words[k]);
-        k += 1;
+// The turn of an operation, and its line of the answers.
+fn replay(mem: &mut [u32], input: &[u8; LINE], output: &mut [u8; LINE]) {
+    let domain = number(turn::whose(mem));
+    let a = turn::turn(mem, operation(input)).answer;
+    let words = [domain, a.status, a.w0, a.w1, a.w2, a.w3, a.w4, a.w5];
+    let (rooms, _) = output.as_chunks_mut::<4>();
+    for (room, word) in rooms.iter_mut().zip(words) {
+        *room = word.to_be_bytes();
     }
 }
 
-// The turn of the operation at byte i, and its line of the answers.
-fn replay(mem: &mut [u32], input: &[u8], output: &mut [u8], i: usize)
-    requires { (i + 32 ≤ length input.now) × (i + 32 ≤ length output.old) }
-    ensures { length output.new ≡ length output.old }
-{
-    let d = turn::whose(mem);
-    let t = turn::turn(mem, operation(input, i));
-    let a = t.answer;
-    let words = [d, a.status, a.w0, a.w1, a.w2, a.w3, a.w4, a.w5];
-    line(output, i, &words);
-}
-
-// The first n operations of a chunk.
-fn chunk(mem: &mut [u32], input: &[u8], output: &mut [u8], n: usize)
-    requires input_holds { 32 * n ≤ length input.now }
-    requires output_holds { 32 * n ≤ length output.old }
-    ensures { length output.new ≡ length output.old }
-{
-    let mut k = 0;
-    while k < n {
-        replay(mem, input, output, 32 * k);
-        k += 1;
+// The operations of a chunk, and their lines of the answers.
+fn chunk(mem: &mut [u32], input: &[u8], output: &mut [u8]) {
+    let (operations, _) = input.as_chunks::<LINE>();
+    let (lines, _) = output.as_chunks_mut::<LINE>();
+    for (operation, line) in operations.iter().zip(lines.iter_mut()) {
+        replay(mem, operation, line);
     }
 }
 
-// A chunk of operations from standard input, and its answers, unless they are not asked for; true where more may follow.
-fn some(mem: &mut [u32], silent: bool) -> bool {
+// A chunk of operations from standard input, whose answers are handed on; true where more may follow.
+fn some<F: Fn(&[u8]) -> bool>(mem: &mut [u32], hand_on: &F) -> bool
+    requires { F.IsAlwaysCallable hand_on.now }
+{
     let mut input = io::buffer();
     let mut output = io::buffer();
     let got = io::read_full(STDIN_FILENO, &mut input);
-    let n = got / 32;
-    chunk(mem, &input, &mut output, n);
-    if silent {
-        return got == CHUNK;
-    }
-    if !io::write_all(STDOUT_FILENO, &output[..32 * n]) {
-        return false;
-    }
-    got == CHUNK
+    chunk(mem, &input[..got], &mut output);
+    hand_on(&output[..got / LINE * LINE]) && got == CHUNK
 }
 
-// A proved loop has to end, and nothing says that a trace does: it counts down from a number that no run uses up.
-fn all(mem: &mut [u32], silent: bool) {
-    let mut chunks = u64::MAX;
-    while chunks > 0 && some(mem, silent) {
-        chunks -= 1;
-    }
-}
-
-fn least(a: usize, b: usize) -> usize
-    ensures { result ≡ min a b }
+// A proved loop has to end, and nothing says that a trace does: it counts to a number that no run reaches.
+fn all<F: Fn(&[u8]) -> bool>(mem: &mut [u32], hand_on: &F)
+    requires { F.IsAlwaysCallable hand_on.now }
 {
-    if a < b { a } else { b }
+    for _ in 0..u64::MAX {
+        if !some(mem, hand_on) {
+            return;
+        }
+    }
 }
 
-// Passes over n bytes of standard input.
+// Passes over n bytes of standard input. Each read takes one at least.
 fn skip(n: usize) {
+    let mut space = io::buffer();
     let mut left = n;
-    while left > 0 {
-        let mut space = io::buffer();
-        let part = least(left, CHUNK);
+    for _ in 0..n {
+        let part = left.min(CHUNK);
         let got = io::read_full(STDIN_FILENO, &mut space[..part]);
         if got == 0 {
             return;
         }
-        left -= least(got, left);
+        left -= got;
     }
 }
 
-// The longest image has 12,360 bytes. One byte more is enough to refuse a longer one as it would be refused whole.
-const IMAGE: usize = 12361;
+// One byte more than the longest image has is enough to refuse a longer one as it would be refused whole.
+const IMAGE: usize = image::IMAGE_MOST + 1;
 
-// The words of a state with 256 frames.
-const WORDS: usize = 71492;
-
-// Reads an image of that length, as far as it fits the space, and boots it into memory.
-fn begin(mem: &mut [u32], space: &mut [u8], length: usize) -> u32 {
-    let part = least(length, space.len());
+// Reads an image of that length, as far as it fits the space, passes over the rest, and boots it into memory.
+fn begin(mem: &mut [u32], space: &mut [u8], length: usize) -> Result<(), Refusal> {
+    let part = length.min(space.len());
     let got = io::read_full(STDIN_FILENO, &mut space[..part]);
     skip(length - part);
     boot::read(&space[..got], mem)
@@ -155,23 +108,21 @@ fn begin(mem: &mut [u32], space: &mut [u8], length: usize) -> u32 {
 fn written(rt: &impl Env) -> bool {
     let mut word = [0u8; 8];
     match rt.arg(1, &mut word) {
-        Ok(n) => check::same(&word[..n], b"written"),
+        Ok(n) => &word[..n] == b"written".as_slice(),
         Err(_) => false,
     }
 }
 
 // Writes a number to standard output.
 fn say(n: u32) -> bool {
-    let mut head = [0u8; 4];
-    put(&mut head, 0, n);
-    io::write_all(STDOUT_FILENO, &head)
+    io::write_all(STDOUT_FILENO, &n.to_be_bytes())
 }
 
 // What the writer gives of the state in memory.
 fn give(mem: &[u32], space: &mut [u8]) {
-    let w = write::write(mem, space);
-    let size = w.size as usize;
-    if say(w.status) {
+    let written = write::write(mem, space);
+    if say(status(written)) {
+        let size = written.unwrap_or(0) as usize;
         io::write_all(STDOUT_FILENO, &space[..size]);
     }
 }
@@ -179,10 +130,10 @@ fn give(mem: &[u32], space: &mut [u8]) {
 // The operations of an accepted image: their answers, or what the writer gives after them.
 fn follow(rt: &impl Env, mem: &mut [u32], space: &mut [u8]) {
     if written(rt) {
-        all(mem, true);
+        all(mem, &|_: &[u8]| true);
         give(mem, space);
     } else if say(0) {
-        all(mem, false);
+        all(mem, &|answers: &[u8]| io::write_all(STDOUT_FILENO, answers));
     }
 }
 
@@ -191,13 +142,13 @@ fn main(rt: HostRuntime) {
     if io::read_full(STDIN_FILENO, &mut head) < 4 {
         return;
     }
-    let length = number(&head, 0) as usize;
+    let length = u32::from_be_bytes(head) as usize;
     let mut space = [0u8; IMAGE];
-    let mut mem = [0u32; WORDS];
-    let refusal = begin(&mut mem, &mut space, length);
-    if refusal == 0 {
-        follow(&rt, &mut mem, &mut space);
-    } else {
-        say(refusal);
+    let mut mem = [0u32; layout::WORDS_MOST];
+    match begin(&mut mem, &mut space, length) {
+        Ok(()) => follow(&rt, &mut mem, &mut space),
+        Err(refusal) => {
+            say(refusal.number());
+        }
     }
 }

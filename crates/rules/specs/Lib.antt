@@ -8,3 +8,5 @@ pub mod Authority
 pub mod Partition
 pub mod History
 pub mod RoundTrip
+pub mod Refusal
+pub mod Kind

@@ -1,6 +1,6 @@
 -- Which sweeps REVOKE makes: a visit and a sweep as functions of the marks, and the number of sweeps up to the first that makes no mark.
 -- Assumes nothing.
-use mathlib.Core.Path.{◌≡◌, refl, sym, ap, ◌∙◌, subst}
+use mathlib.Core.Path.{◌≡◌, refl, sym, ap, ◌∙◌}
 use mathlib.Core.Bool.{Bool, true, false}
 use mathlib.Core.List.{List}
 use mathlib.Core.Logic.{⊎_elim}
@@ -8,7 +8,7 @@ use Prim.Native.Nat.{ℕ, suc, ◌+◌, ◌-◌, ◌*◌, ◌≤◌, ◌<◌}
 use native.Mathlib.Omega.{arith}
 use native.Mathlib.Numerals.{add-one}
 use lib.Dec.{ltb}
-use lib.ListN.{get_or, set, replicate, get_or-eq_default}
+use lib.ListN.{get_or, set, get_or-eq_default}
 use lib.Seq.{set-get_or}
 use borrow.Author.Tests.{eq-eqb, ne_eqb, ltb-true, ltb-false}
 use Rattle.rules.specs.Sizes.{places}
@@ -48,9 +48,6 @@ module _ (at : Places) where
   pub marks_more : (before : List ℕ) {now after : List ℕ} (q : ℕ) → now ≡ marks_to at q before → after ≡ marking at q now → after ≡ marks_to at (q + 1) before
   unfolding marks_to
   marks_more before q e g = rw (add-one q) (g ∙ ap (marking at q) e)
-
-  pub marks_end : (before : List ℕ) {after : List ℕ} {q : ℕ} → q ≤ places → places ≤ q → after ≡ marks_to at q before → after ≡ marks_to at places before
-  marks_end before {after} {q} h g e = subst (λ k. after ≡ marks_to at k before) (let z : q ≡ places = omega arith in z) e
 
   -- ---- all sweeps
 
@@ -129,7 +126,7 @@ module _ (at : Places) {start : List ℕ} {v : ℕ} where
 
 -- ---- the whole of REVOKE's visits
 
-pub visits-found : {at : Places} {marks : List ℕ} {p v n r : ℕ} → Searched at (set (replicate (suc places) 0) (p + 1) 1) marks v n
+pub visits-found : {at : Places} {marks : List ℕ} {p v n r : ℕ} → Searched at (root_mark p) marks v n
     → r ≡ n + to_empty marks p places → PruneVisits at p v r
 unfolding root_mark
 visits-found {at} {marks} {p} {v} {n} {r} s e =

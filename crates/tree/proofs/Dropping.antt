@@ -3,7 +3,7 @@
 use mathlib.Core.Path.{◌≡◌, refl, ap, fun_ext}
 use mathlib.Core.Bool.{Bool, true, false, cond}
 use mathlib.Core.List.{List}
-use Prim.Native.Nat.{ℕ, suc, ◌+◌, ◌≤◌, ◌<◌}
+use Prim.Native.Nat.{ℕ, suc, ◌+◌, ◌<◌}
 use native.Mathlib.Omega.{arith}
 use lib.Dec.{eqb, ltb}
 use borrow.Author.Tests.{ltb-false, lt-ltb, le-ltb, eqb-true, eqb-false, ne_eqb}
@@ -15,7 +15,7 @@ use Rattle.layout.specs.Layout.{state_of}
 use Rattle.layout.specs.Stored.{Stored, placed, resourced, handed}
 use Rattle.layout.proofs.Stores.{stored_then}
 use Rattle.tree.specs.Tree.{dropping, handing}
-use Rattle.tree.proofs.Kept.{below-same, stored_as, stored_end, Ends, ends}
+use Rattle.tree.proofs.Kept.{below-same, stored_as, Ends, ends}
 
 module _ (x y : ℕ) where
   handing-zero : (s : State) → s ≡ handing 0 x y s
@@ -42,9 +42,6 @@ module _ (x y : ℕ) where
   pub handed_more : {m n o : List ℕ} (q : ℕ) → q < places → Stored Unit (handing q x y) m n → Stored (q < places) (handed q x y) n o
       → Stored Unit (handing (q + 1) x y) m o
   handed_more {m} q h a b = stored_as (λ o. (tt, h)) (λ o. handing-suc q (state_of m)) (stored_then a b)
-
-  pub handed_end : {m n : List ℕ} {q : ℕ} → q ≤ places → places ≤ q → Stored Unit (handing q x y) m n → Stored Unit (handing places x y) m n
-  handed_end h g s = stored_end (λ q. handing q x y) h g s
 
 -- the whole sweep, and then p
 dropping_swept : (s : State) (p y : ℕ) → y ≡ (s.capability p).source → Ends s

@@ -10,7 +10,8 @@ use lib.Seq.{get_or-set_same, get_or-set_other}
 use Rattle.rules.specs.Sizes.{places}
 use Rattle.rules.specs.State.{Places, Derived, direct, further}
 use Rattle.rules.proofs.Places.{same?}
-use Rattle.tree.specs.Marks.{Marked, counted, Blank, Marks, Rooted, Follows, Swept, Closed}
+use Rattle.tree.specs.Sweeps.{root_mark}
+use Rattle.tree.specs.Marks.{Marked, counted, Blank, Marks, Rooted, Follows, Swept}
 
 -- ---- how many are marked
 
@@ -152,10 +153,6 @@ module _ (at : Places) where
       nothing_then : o ≡ n → o ≡ m
       nothing_then e = let g = a.more in let h = b.more in omega arith
 
-  pub swept_end : {n m : ℕ} {before after : List ℕ} {q : ℕ} → q ≤ places → places ≤ q → Swept at 0 q n before m after
-      → Swept at 0 places n before m after
-  swept_end {n} {m} {before} {after} {q} h g s = subst (λ k. Swept at 0 k n before m after) (let z : q ≡ places = omega arith in z) s
-
 -- ---- all sweeps from place p
 
 -- no mark yet
@@ -166,6 +163,19 @@ blank = record { long = length-replicate {A = ℕ} (suc places) 0; none = λ x. 
     each zero x = refl
     each (suc n) zero = refl
     each (suc n) (suc x) = each n x
+
+-- place p is marked, and nothing else
+pub root_marks : (p : ℕ) → p < places → Marks 1 (root_mark p)
+unfolding root_mark
+root_marks p h =
+    subst (λ k. Marks 1 (set (replicate (suc places) 0) k 1)) (sym (add-one p))
+    (marks-set (replicate (suc places) 0) p (let l = blank.long in omega arith) (blank.none (suc p)) h
+    (record {
+      long = blank.long;
+      none = blank.none 0;
+      most = λ x. let g = blank.none x in omega arith;
+      count = sym (counted-blank (replicate (suc places) 0) blank.none places);
+    }))
 
 -- n marks, and before the last sweep there were b; where that made none, each place is marked where its source is
 pub record Sweeping (at : Places) (p b n : ℕ) (now : List ℕ) : Type 0 where
@@ -178,35 +188,27 @@ pub record Sweeping (at : Places) (p b n : ℕ) (now : List ℕ) : Type 0 where
 
 module _ (at : Places) where
   -- p is marked; a sweep more; and after one that made no mark
-  pub sweeping_begun : {marks : List ℕ} (p : ℕ) → p < places → Blank marks → Sweeping at p 0 1 (set marks (p + 1) 1)
-  sweeping_begun {marks} p h b =
-      subst (λ k. Sweeping at p 0 1 (set marks k 1)) (sym (add-one p))
-      (record {
-        marks = marks-set marks p long free h none;
+  pub sweeping_begun : (p : ℕ) → p < places → Sweeping at p 0 1 (root_mark p)
+  unfolding root_mark
+  sweeping_begun p h =
+      record {
+        marks = root_marks p h;
         more = omega arith;
         least = omega arith;
         most = omega arith;
-        rooted = record {
-          root = get_or-set_same marks (suc p) 1 0 long;
-          derived = λ q e. ⊎_elim (λ z. inl (omega arith)) (λ z. absurd (let g = b.none (suc q) in omega arith)) (was_marked marks p long free (suc q) e);
-        };
+        rooted = subst (λ k. Rooted at p (set start k 1)) (sym (add-one p)) (record {
+          root = get_or-set_same start (suc p) 1 0 long;
+          derived = λ q e. ⊎_elim (λ z. inl (omega arith)) (λ z. absurd (let g = blank.none (suc q) in omega arith))
+              (was_marked start p long (blank.none (suc p)) (suc q) e);
+        });
         follows = λ e. absurd (omega arith);
-      })
+      }
     where
-      long : suc p < length marks
-      long = let l = b.long in omega arith
+      start : List ℕ
+      start = replicate (suc places) 0
 
-      free : get_or marks (suc p) 0 ≡ 0
-      free = b.none (suc p)
-
-      none : Marks 0 marks
-      none =
-          record {
-            long = b.long;
-            none = b.none 0;
-            most = λ x. let g = b.none x in omega arith;
-            count = sym (counted-blank marks b.none places);
-          }
+      long : suc p < length start
+      long = let l = blank.long in omega arith
 
   pub sweeping_more : {p b n m : ℕ} {before after : List ℕ} → Sweeping at p b n before → Swept at 0 places n before m after → Sweeping at p n m after
   sweeping_more {p} s t =
@@ -217,14 +219,4 @@ module _ (at : Places) where
         most = marks-most t.marks;
         rooted = t.rooted p s.rooted;
         follows = λ e q h. t.follows e q (omega arith) h;
-      }
-
-  pub sweeping_end : {p b n : ℕ} {marks : List ℕ} → Sweeping at p b n marks → n ≤ b → Closed at p marks
-  sweeping_end s h =
-      record {
-        long = s.marks.long;
-        none = s.marks.none;
-        most = s.marks.most;
-        rooted = s.rooted;
-        follows = s.follows (let g = s.more in omega arith);
       }

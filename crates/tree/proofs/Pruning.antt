@@ -22,7 +22,7 @@ use Rattle.layout.specs.Stored.{Stored, placed}
 use Rattle.layout.proofs.Stores.{stored_then}
 use Rattle.tree.specs.Tree.{pruning, prune_visits}
 use Rattle.tree.specs.Marks.{Marked, Follows, Closed, chosen, to_empty, clearing, emptying}
-use Rattle.tree.proofs.Kept.{below-same, stored_as, stored_end, Ends, ends}
+use Rattle.tree.proofs.Kept.{below-same, stored_as, Ends, ends}
 
 -- the visit to a place that is to be emptied
 abbrev one : Bool → ℕ
@@ -116,9 +116,6 @@ module _ (marks : List ℕ) (p : ℕ) where
       → Stored Unit (emptying (q + 1) marks p) m o
   emptied_more {m} q a b = stored_as (λ o. (tt, tt)) (λ o. emptying-suc q (state_of m)) (stored_then a b)
 
-  pub emptied_end : {m n : List ℕ} {q : ℕ} → q ≤ places → places ≤ q → Stored Unit (emptying q marks p) m n → Stored Unit (emptying places marks p) m n
-  emptied_end h g s = stored_end (λ q. emptying q marks p) h g s
-
   -- ---- the visits
 
   pub visits_none : (v : ℕ) → v ≡ v + to_empty marks p 0
@@ -128,9 +125,6 @@ module _ (marks : List ℕ) (p : ℕ) where
   pub visits_more : (v n r q : ℕ) → n ≡ v + to_empty marks p q → r ≡ n + cond (chosen marks p q) 1 0 → r ≡ v + to_empty marks p (q + 1)
   unfolding to_empty
   visits_more v n r q e g = rw (add-one q) (omega arith)
-
-  pub visits_end : (v n q : ℕ) → q ≤ places → places ≤ q → n ≡ v + to_empty marks p q → n ≡ v + to_empty marks p places
-  visits_end v n q h g e = subst (λ k. n ≡ v + to_empty marks p k) (let z : q ≡ places = omega arith in z) e
 
   -- one for each place but p, at most
   to_empty-most : (n : ℕ) → to_empty marks p n + min 1 (n - p) ≤ n

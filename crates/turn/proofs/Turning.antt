@@ -23,7 +23,7 @@ use Rattle.rules.proofs.Formed.{whose-low}
 use Rattle.rules.proofs.Reached.{sound_next}
 use Rattle.layout.specs.Layout.{state_of, position_at, need, Enough}
 use Rattle.layout.specs.Stored.{Stored, Placed, Elsewhere}
-use Rattle.turn.specs.Turned.{Turned, Good, Exact, Named, Fitting, Idle, Applied, Whose}
+use Rattle.turn.specs.Turned.{Turned, Good, Exact, Named, Fitting, Idle, Applied}
 use Rattle.turn.specs.Visits.{visits_for, Visited, cost, allowed}
 use Rattle.decide.specs.Visits.{looks, looks_most}
 use Rattle.decide.proofs.Visits.{looks-most}
@@ -110,7 +110,7 @@ module _ (s : State) (d : ℕ) (o : Operation) {x : Decision} (e : x ≡ decide 
 
 -- ---- the turn
 
-low : (w : ℕ) → w % 16 < domains_most
+pub low : (w : ℕ) → w % 16 < domains_most
 low w = mod-lt w (omega arith)
 
 -- what the test of the memory's length told
@@ -170,9 +170,3 @@ module _ (o : Operation) {m n₁ n : List ℕ} {x : Decision} {w k v : ℕ} (eno
         refused = λ h j l. apart j l ∙ ap (λ y. get_or y j 0) (a.still (effect-idle (state_of m) (w % 16) o e h));
         exact = exactly;
       }
-
-pub whose-long : {m : List ℕ} {d : ℕ} {t : Bool} → t ≡ leb (need m) (length m) → t ≡ true → d ≡ whose (state_of m) → Whose m d
-whose-long {m} e t h = record { long = λ l. h; short = λ l. absurd (let g = enough_of m e t in omega arith) }
-
-pub whose-short : {m : List ℕ} {t : Bool} → t ≡ leb (need m) (length m) → t ≡ false → Whose m 29
-whose-short {m} e t = record { long = λ l. absurd (let g = leb-false (need m) (length m) (sym e ∙ t) in omega arith); short = λ l. refl }

@@ -1,92 +1,63 @@
 // The effects, performed without any check. On memory that is not good an object may be none that there is: then nothing is stored.
-ghost use Rattle.std.specs.Prelude.{◌≡◌, ◌<◌};
+ghost use Rattle.std.specs.Prelude.{ℕ, ◌<◌};
 ghost use Rattle.rules.specs.Sizes.{places};
-ghost use Rattle.rules.specs.declared.Effect.TheVariants.{Store, Ring, Hush, Put, Post, Take, Move};
+ghost use Rattle.rules.specs.declared.Effect.TheVariants.{Store, Ring, Hush, Post, Take, Move};
 ghost use Rattle.layout.specs.Layout.{Enough};
 ghost use Rattle.turn.specs.Turned.{Applied};
 
+use layout::Memory;
 use rules::{ALL_SLOTS, Capability, MAILBOXES, Message};
 
-pub fn store(mem: &mut [u32], f: u32, w: u32, v: u32, visits: u32) -> u32
+pub fn store(mem: &mut [u32], f: u32, w: u32, v: u32)
     requires { Enough mem.old }
-    ensures { Applied mem.old (Store f w v) mem.new visits result }
+    ensures { (visits : ℕ) → Applied mem.old (Store f w v) mem.new visits visits }
 {
     layout::set_word(mem, f, w, v);
-    visits
 }
 
-pub fn ring(mem: &mut [u32], b: u32, badge: u32, visits: u32) -> u32
+pub fn ring(mem: &mut [u32], b: u32, badge: u32)
     requires { Enough mem.old }
-    ensures { Applied mem.old (Ring b badge) mem.new visits result }
+    ensures { (visits : ℕ) → Applied mem.old (Ring b badge) mem.new visits visits }
 {
-    let v = layout::bell(mem, b) | badge;
+    let v = Memory { words: mem }.bell(b) | badge;
     layout::set_bell(mem, b, v);
-    visits
 }
 
-pub fn hush(mem: &mut [u32], b: u32, visits: u32) -> u32
+pub fn hush(mem: &mut [u32], b: u32)
     requires { Enough mem.old }
-    ensures { Applied mem.old (Hush b) mem.new visits result }
+    ensures { (visits : ℕ) → Applied mem.old (Hush b) mem.new visits visits }
 {
     layout::set_bell(mem, b, 0);
-    visits
 }
 
-pub fn put(mem: &mut [u32], p: u32, c: Capability, visits: u32) -> u32
+pub fn post(mem: &mut [u32], m: u32, g: Message, c: Capability, visits: &mut u32)
+    requires enough { Enough mem.old }
+    requires visits_left { visits.old < 8 }
+    ensures { Applied mem.old (Post m g c) mem.new visits.old visits.new }
+{
+    if m < MAILBOXES {
+        layout::place(mem, ALL_SLOTS + m, c, visits);
+        layout::set_message(mem, m, g);
+    }
+}
+
+pub fn take(mem: &mut [u32], m: u32, visits: &mut u32)
+    requires enough { Enough mem.old }
+    requires visits_left { visits.old < 8 }
+    ensures { Applied mem.old (Take m) mem.new visits.old visits.new }
+{
+    post(mem, m, Message::NONE, Capability::NOTHING, visits);
+}
+
+pub fn move_to(mem: &mut [u32], m: u32, p: u32, visits: &mut u32)
     requires enough { Enough mem.old }
     requires p_in_range { p < places }
-    requires visits_left { visits < 8 }
-    ensures { Applied mem.old (Put p c) mem.new visits result }
+    requires visits_left { visits.old < 4 }
+    ensures { Applied mem.old (Move m p) mem.new visits.old visits.new }
 {
-    layout::place(mem, p, c, visits)
-}
-
-pub fn post(mem: &mut [u32], m: u32, g: Message, c: Capability, visits: u32) -> u32
-    requires enough { Enough mem.old }
-    requires visits_left { visits < 8 }
-    ensures { Applied mem.old (Post m g c) mem.new visits result }
-{
-    if m >= MAILBOXES {
-        return visits;
+    if m < MAILBOXES {
+        let under = Memory { words: mem }.see(ALL_SLOTS + m, visits);
+        take(mem, m, visits);
+        layout::place(mem, p, under, visits);
     }
-    let n = layout::place(mem, ALL_SLOTS + m, c, visits);
-    layout::set_message(mem, m, g);
-    n
-}
-
-pub fn take(mem: &mut [u32], m: u32, visits: u32) -> u32
-    requires enough { Enough mem.old }
-    requires visits_left { visits < 8 }
-    ensures { Applied mem.old (Take m) mem.new visits result }
-{
-    let none = Message {
-        full: 0,
-        badge: 0,
-        w0: 0,
-        w1: 0,
-        w2: 0,
-        w3: 0,
-    };
-    let nothing = Capability {
-        kind: 0,
-        rights: 0,
-        object: 0,
-        badge: 0,
-        source: 0,
-    };
-    post(mem, m, none, nothing, visits)
-}
-
-pub fn move_to(mem: &mut [u32], m: u32, p: u32, visits: u32) -> u32
-    requires enough { Enough mem.old }
-    requires p_in_range { p < places }
-    requires visits_left { visits < 4 }
-    ensures { Applied mem.old (Move m p) mem.new visits result }
-{
-    if m >= MAILBOXES {
-        return visits;
-    }
-    let under = layout::see(mem, ALL_SLOTS + m, visits);
-    let n = take(mem, m, under.visits);
-    layout::place(mem, p, under.capability, n)
 }

@@ -3,12 +3,19 @@
 
 mod effect;
 
-ghost use Rattle.std.specs.Prelude.{◌≡◌, ◌≤◌};
-ghost use Rattle.layout.specs.Layout.{Enough, words_of};
+ghost use Rattle.std.specs.Prelude.{◌≡◌, ◌↔◌, ◌≤◌, ◌<◌, ◌%◌, IsErr, length};
+ghost use Rattle.rules.specs.Sizes.{domains_most};
+ghost use Rattle.rules.specs.State.{whose as turn_of};
+ghost use Rattle.rules.specs.Turn.{named, decide as decide_rule};
+ghost use Rattle.rules.specs.Refusal.{number_in};
+ghost use Rattle.layout.specs.Layout.{state_of, need, Enough, words_of};
+ghost use Rattle.decide.specs.Visits.{looks};
 ghost use Rattle.turn.specs.Turned.{Turned as TurnedBy, Whose, Named, Applied};
 ghost use Rattle.turn.specs.Visits.{allowed};
 
-use rules::{Answer, DOMAINS_MOST, Effect, Operation};
+use layout::Memory;
+use look::Acting;
+use rules::{Answer, DOMAINS_MOST, Decision, Effect, Operation, Refusal};
 
 // The answer, and how many places were visited.
 #[derive(Clone, Copy)]
@@ -17,24 +24,40 @@ pub struct Turned {
     pub visits: u32,
 }
 
+// What the checks come to for the domain whose turn it is.
+fn decided(memory: Memory<'_>, op: Operation, visits: &mut u32) -> Decision
+    requires first { visits.old ≡ 0 }
+    ensures decision { result ≡ decide_rule (state_of memory.entry.words.now) (turn_of (state_of memory.entry.words.now) % domains_most) op }
+    ensures visits { visits.new ≡ looks (state_of memory.entry.words.now) (turn_of (state_of memory.entry.words.now) % domains_most) (named op.number) op }
+{
+    let who = Acting {
+        memory,
+        domain: memory.whose() % DOMAINS_MOST,
+    };
+    match decide::decide(&who, op, visits) {
+        Ok(decision) => decision,
+        Err(refusal) => look::refused(refusal),
+    }
+}
+
 // The effect is performed, without any check.
-fn apply(mem: &mut [u32], e: Effect, visits: u32) -> u32
+fn apply(mem: &mut [u32], e: Effect, visits: &mut u32)
     requires enough { Enough mem.old }
     requires named { Named e }
-    requires visits_left { visits ≤ allowed e }
-    ensures { Applied mem.old e mem.new visits result }
+    requires visits_left { visits.old ≤ allowed e }
+    ensures { Applied mem.old e mem.new visits.old visits.new }
 {
     match e {
-        Effect::Nothing => return visits,
-        Effect::Store(f, w, v) => return effect::store(mem, f, w, v, visits),
-        Effect::Ring(b, badge) => return effect::ring(mem, b, badge, visits),
-        Effect::Hush(b) => return effect::hush(mem, b, visits),
-        Effect::Put(p, c) => return effect::put(mem, p, c, visits),
-        Effect::Drop(p) => return tree::drop_place(mem, p, visits),
-        Effect::Prune(p) => return tree::prune(mem, p, visits),
-        Effect::Post(m, g, c) => return effect::post(mem, m, g, c, visits),
-        Effect::Take(m) => return effect::take(mem, m, visits),
-        Effect::Move(m, p) => return effect::move_to(mem, m, p, visits),
+        Effect::Nothing => {}
+        Effect::Store(f, w, v) => effect::store(mem, f, w, v),
+        Effect::Ring(b, badge) => effect::ring(mem, b, badge),
+        Effect::Hush(b) => effect::hush(mem, b),
+        Effect::Put(p, c) => layout::place(mem, p, c, visits),
+        Effect::Drop(p) => tree::drop_place(mem, p, visits),
+        Effect::Prune(p) => tree::prune(mem, p, visits),
+        Effect::Post(m, g, c) => effect::post(mem, m, g, c, visits),
+        Effect::Take(m) => effect::take(mem, m, visits),
+        Effect::Move(m, p) => effect::move_to(mem, m, p, visits),
     }
 }
 
@@ -44,39 +67,27 @@ pub fn turn(mem: &mut [u32], op: Operation) -> Turned
 {
     if !layout::enough(mem) {
         return Turned {
-            answer: Answer {
-                status: 29,
-                w0: 0,
-                w1: 0,
-                w2: 0,
-                w3: 0,
-                w4: 0,
-                w5: 0,
-            },
+            answer: look::refused(Refusal::TooShort).answer,
             visits: 0,
         };
     }
-    let d = layout::whose(mem) % DOMAINS_MOST;
-    let decided = decide::decide(mem, d, op);
-    let decision = decided.decision;
-    let effect = decision.effect;
-    let answer = decision.answer;
-    let visits = apply(mem, effect, decided.visits);
+    let mut visits = 0;
+    let Decision { effect, answer } = decided(Memory { words: mem }, op, &mut visits);
+    apply(mem, effect, &mut visits);
     layout::move_on(mem);
     Turned { answer, visits }
 }
 
-// The domain whose turn is next, or 29 where memory is too short.
-pub fn whose(mem: &[u32]) -> u32
-    ensures { Whose mem.now result }
+// The domain whose turn is next; memory that is too short is refused.
+pub fn whose(mem: &[u32]) -> Result<u32, Refusal>
+    ensures number { Whose mem.now (number_in result) }
+    ensures short { IsErr result ↔ (length mem.now < need mem.now) }
 {
-    if layout::enough(mem) {
-        return layout::whose(mem);
-    }
-    29
+    let memory = Memory::of(mem).ok_or(Refusal::TooShort)?;
+    Ok(memory.whose())
 }
 
-// The words of memory that a state with so many frames takes, or 0 where that is out of range.
+// The words of memory that a state with so many frames takes, or 0 where that is out of range: a number, as C gets it from mk_words.
 pub fn words(frames: u32) -> usize
     ensures { result ≡ words_of frames }
 {

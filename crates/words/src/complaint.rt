@@ -1,7 +1,6 @@
 // What a program says on standard error of a word that it can't take.
-ghost use Rattle.io.specs.Counts.{IsPrefixLen};
-
-use crate::{Word, byte, is_none};
+use std::fmt;
+use std::fmt::Write;
 
 // Standard error's number.
 const STDERR_FILENO: i32 = 2;
@@ -9,45 +8,67 @@ const STDERR_FILENO: i32 = 2;
 // The most bytes of a word that are shown.
 const SHOWN: usize = 40;
 
-// A byte as it is shown: a question mark for one that is no printing character of ASCII.
-fn shown(b: u8) -> u8 {
-    if (b' ' <= b) & (b <= b'~') { b } else { b'?' }
+// Standard error. What can't be written there is lost, and is no error.
+#[derive(Drop)]
+struct StandardError;
+
+impl fmt::Write for StandardError {
+    fn write_str(&mut self, s: &str) -> fmt::Result {
+        io::write_all(STDERR_FILENO, s.as_bytes());
+        Ok(())
+    }
 }
 
-// The word's bytes, up to SHOWN of them, at the start of the space; gives how many.
-fn copy(text: &[u8], word: Word, space: &mut [u8]) -> usize
-    ensures { IsPrefixLen result space.new }
-{
-    let mut i = word.start;
-    let mut n = 0;
-    while i < word.end {
-        if space.len() <= n {
-            return n;
+// A word as it is shown: its first bytes, with a question mark for one that is no printing character of ASCII.
+#[derive(Clone, Copy)]
+struct Shown<'a>(&'a [u8]);
+
+impl fmt::Display for Shown<'_> {
+    fn fmt<W: fmt::Write>(&self, f: &mut fmt::Formatter<W>) -> fmt::Result {
+        for b in self.0.iter().take(SHOWN) {
+            let shown = if matches!(*b, b' '..=b'~') { *b } else { b'?' };
+            f.write_char(char::from(shown))?;
         }
-        space[n] = shown(byte(text, i));
-        n += 1;
-        i += 1;
+        Ok(())
     }
-    n
 }
 
-// The word, and a colon.
-fn show(text: &[u8], word: Word) {
-    let mut space = [0u8; SHOWN];
-    let n = copy(text, word, &mut space);
-    io::write_all(STDERR_FILENO, &space[..n]);
-    io::write_all(STDERR_FILENO, b": ");
+// What is wrong with a text, and where: the number of the line and the word, or several, unless it is the whole line or the whole text.
+#[derive(Clone, Copy)]
+pub struct Complaint<'a, F> {
+    pub line: Option<usize>,
+    pub word: Option<&'a [u8]>,
+    pub fault: F,
 }
 
-// `line 7: word: message`, without the line where that is 0, and without the word where there is none.
-pub fn complain(text: &[u8], line: usize, word: Word, message: &[u8]) {
-    if 0 < line {
-        io::write_all(STDERR_FILENO, b"line ");
-        io::print_decimal(STDERR_FILENO, line as u64);
-        io::write_all(STDERR_FILENO, b": ");
+// Something is wrong with the whole text.
+impl<F> From<F> for Complaint<'_, F> {
+    fn from(fault: F) -> Self {
+        Complaint {
+            line: None,
+            word: None,
+            fault,
+        }
     }
-    if !is_none(word) {
-        show(text, word);
+}
+
+// `line 7: word: message`
+impl<F: fmt::Display> fmt::Display for Complaint<'_, F> {
+    fn fmt<W: fmt::Write>(&self, f: &mut fmt::Formatter<W>) -> fmt::Result {
+        if let Some(line) = self.line {
+            write!(f, "line {line}: ")?;
+        }
+        if let Some(word) = self.word {
+            write!(f, "{}: ", Shown(word))?;
+        }
+        write!(f, "{}", self.fault)
     }
-    io::write_all(STDERR_FILENO, message);
+}
+
+impl<F: fmt::Display> Complaint<'_, F> {
+    // Says it on standard error, in a line.
+    pub fn say(&self) {
+        // Standard error gives no error.
+        let _ = write!(StandardError, "{self}\n");
+    }
 }

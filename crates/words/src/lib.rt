@@ -1,167 +1,141 @@
-// Lines and words of a text, by positions in it. Words are separated by blanks: spaces, tabs and carriage returns, so that a line may end
-// as it does elsewhere. A line ends at a line feed, or at the text's end; what `#` begins is no part of it. Nothing is required of a
-// position: past the text's end there are no words.
+// Lines and words of a text, which are parts of it. Words are separated by blanks: spaces, tabs and carriage returns, so that a line may end
+// as it does elsewhere. A line ends with a line feed, or at the text's end; what `#` begins is no part of its words.
 #![tactic(auto)]
 
 mod complaint;
 
-ghost use Rattle.std.specs.Prelude.{◌≤◌, ◌<◌, length};
+ghost use Rattle.std.specs.Prelude.{◌≡◌, ◌+◌, ◌<◌, ◌≤◌, false, length, IfSome};
+ghost use Rattle.std.specs.Str.Parse.{IsNumeral, digits_value};
+ghost use Rattle.std.specs.Iterator.{at_most};
 
-pub use complaint::complain;
+pub use complaint::Complaint;
 
-// The bytes of a word: from start up to end, which is not one of them. No byte at all: no word.
+// The lines of a text that are still to come, each with its end.
 #[derive(Clone, Copy)]
-pub struct Word {
-    pub start: usize,
-    pub end: usize,
+pub struct Lines<'a> {
+    rest: &'a [u8],
 }
 
-// Byte i; past the end a line feed.
-pub fn byte(text: &[u8], i: usize) -> u8 {
-    if i < text.len() { text[i] } else { b'\n' }
+impl<'a> Lines<'a> {
+    // All lines of a text.
+    pub fn new(text: &'a [u8]) -> Self
+        ensures { result.rest.now ≡ text.now }
+    {
+        Lines { rest: text }
+    }
 }
 
+impl<'a> Iterator for Lines<'a> {
+    type Item = &'a [u8];
+
+    // No line is empty, and what is left after it is the rest.
+    ghost next_gives = { λ lines line left. IfSome line (λ l. (0 < length l.now) × (length l.now + length left.rest.now ≡ length lines.rest.now)) };
+
+    ghost remaining = { λ lines. at_most (length lines.rest.now) };
+
+    fn next(&mut self) -> Option<&'a [u8]> {
+        if self.rest.is_empty() {
+            return None;
+        }
+        let end = match self.rest.iter().position(|b| *b == b'\n') {
+            Some(i) => i + 1,
+            None => self.rest.len(),
+        };
+        let (line, rest) = self.rest.split_at(end);
+        self.rest = rest;
+        Some(line)
+    }
+}
+
+// The words of a line that are still to come.
+#[derive(Clone, Copy)]
+pub struct Words<'a> {
+    rest: &'a [u8],
+}
+
+impl<'a> Words<'a> {
+    // All words of a line.
+    pub fn new(line: &'a [u8]) -> Self
+        ensures { length result.rest.now ≤ length line.now }
+    {
+        let end = line
+            .iter()
+            .position(|b| ends_words(*b))
+            .unwrap_or(line.len());
+        Words { rest: &line[..end] }
+    }
+
+    // Passes the next word if it is that one, and tells whether it is.
+    pub fn pass(&mut self, wanted: &[u8]) -> bool
+        ensures { result ≡ false → self.new ≡ self.old }
+    {
+        let mut ahead = *self;
+        let is = ahead.next() == Some(wanted);
+        if is {
+            *self = ahead;
+        }
+        is
+    }
+
+    // The words that were passed since then, with the blanks between them.
+    pub fn since(&self, then: Words<'a>) -> &'a [u8]
+        ensures { length result.now ≤ length then.entry.rest.now }
+    {
+        let rest = past_blanks(then.rest);
+        let n = rest.len().saturating_sub(self.rest.len());
+        &rest[..n]
+    }
+}
+
+impl<'a> Iterator for Words<'a> {
+    type Item = &'a [u8];
+
+    // No word is empty.
+    ghost next_gives = { λ words word left. IfSome word (λ w. 0 < length w.now) };
+
+    ghost remaining = { λ words. at_most (length words.rest.now) };
+
+    fn next(&mut self) -> Option<&'a [u8]> {
+        let rest = past_blanks(self.rest);
+        let (_, others) = rest.split_first()?;
+        let more = others
+            .iter()
+            .position(|b| is_blank(*b))
+            .unwrap_or(others.len());
+        let (word, rest) = rest.split_at(1 + more);
+        self.rest = rest;
+        Some(word)
+    }
+}
+
+// Whether it separates words.
 fn is_blank(b: u8) -> bool {
-    (b == b' ') | (b == b'\t') | (b == b'\r')
+    matches!(b, b' ' | b'\t' | b'\r')
 }
 
-fn ends_line(b: u8) -> bool {
-    (b == b'\n') | (b == b'#')
+// Whether no word of the line stands from there on.
+fn ends_words(b: u8) -> bool {
+    matches!(b, b'\n' | b'#')
 }
 
-fn is_part(b: u8) -> bool {
-    !is_blank(b) & !ends_line(b)
-}
-
-// The first position from there on that has no blank.
-fn past_blanks(text: &[u8], from: usize) -> usize {
-    let mut i = from;
-    while i < text.len() {
-        if !is_blank(text[i]) {
-            return i;
-        }
-        i += 1;
-    }
-    i
-}
-
-// The first position from there on that has no byte of a word.
-fn past_word(text: &[u8], from: usize) -> usize {
-    let mut i = from;
-    while i < text.len() {
-        if !is_part(text[i]) {
-            return i;
-        }
-        i += 1;
-    }
-    i
-}
-
-// The first word of the line from a position on.
-pub fn next(text: &[u8], from: usize) -> Word {
-    let start = past_blanks(text, from);
-    let end = past_word(text, start);
-    Word { start, end }
-}
-
-// Whether that is no word.
-pub fn is_none(word: Word) -> bool {
-    word.end <= word.start
-}
-
-// Where the next line begins, or the text's end.
-pub fn next_line(text: &[u8], from: usize) -> usize
-    requires { from < length text.now }
-    ensures { (from < result) × (result ≤ length text.now) }
+// What follows the blanks at the beginning.
+fn past_blanks(line: &[u8]) -> &[u8]
+    ensures { length result.now ≤ length line.now }
 {
-    let mut i = from;
-    while i < text.len() {
-        if text[i] == b'\n' {
-            return i + 1;
-        }
-        i += 1;
-    }
-    i
+    let blanks = line
+        .iter()
+        .position(|b| !is_blank(*b))
+        .unwrap_or(line.len());
+    &line[blanks..]
 }
 
-// Whether a word of a text is a word of another text.
-pub fn same(text: &[u8], word: Word, other: &[u8], its: Word) -> bool {
-    let mut i = word.start;
-    let mut j = its.start;
-    while i < word.end {
-        if its.end <= j {
-            return false;
-        }
-        if byte(text, i) != byte(other, j) {
-            return false;
-        }
-        i += 1;
-        j += 1;
-    }
-    its.end <= j
-}
-
-// Whether a word has these bytes.
-pub fn is(text: &[u8], word: Word, bytes: &[u8]) -> bool {
-    same(
-        text,
-        word,
-        bytes,
-        Word {
-            start: 0,
-            end: bytes.len(),
-        },
-    )
-}
-
-// What `number` gives for a number that is too large for it, and for a word that is no number.
-pub const LARGE: usize = 10000000000;
-
-pub const NONE: usize = 10000000001;
-
-fn is_digit(b: u8) -> bool {
-    (b'0' <= b) & (b <= b'9')
-}
-
-// What a digit stands for.
-fn digit(b: u8) -> usize
-    ensures { result < 10 }
+// The number that a word is in decimal digits; none where it is no number, or a greater one than fits.
+pub fn number(word: &[u8]) -> Option<u32>
+    ensures { IfSome result (λ n. IsNumeral 10 word.now × (n ≡ digits_value 10 word.now)) }
 {
-    if b < b'0' {
-        return 0;
+    // A number has no sign here.
+    if word.first() == Some(&b'+') {
+        return None;
     }
-    if b'9' < b {
-        return 0;
-    }
-    (b - b'0') as usize
-}
-
-// A number with a digit more.
-fn grown(number: usize, b: u8) -> usize
-    ensures { result ≤ 10000000000 }
-{
-    if number < 1000000000 {
-        return number * 10 + digit(b);
-    }
-    LARGE
-}
-
-// The number that a word is in decimal digits.
-pub fn number(text: &[u8], word: Word) -> usize
-    ensures { result ≤ 10000000001 }
-{
-    if is_none(word) {
-        return NONE;
-    }
-    let mut value = 0;
-    let mut i = word.start;
-    while i < word.end {
-        let b = byte(text, i);
-        if !is_digit(b) {
-            return NONE;
-        }
-        value = grown(value, b);
-        i += 1;
-    }
-    value
+    str::from_utf8(word).ok()?.parse().ok()
 }

@@ -6,22 +6,23 @@ use mathlib.Core.Logic.{⊎_elim}
 use Prim.Native.Nat.{ℕ, zero, suc, ◌+◌, ◌-◌, ◌*◌, ◌/◌, ◌%◌, ◌≤◌, ◌<◌}
 use native.Mathlib.Omega.{arith}
 use lib.Dec.{eqb, leb, ltb}
-use lib.ListN.{length, get_or, take, drop, replicate, length-append, length-map, length-replicate, get_or-eq_default}
-use lib.Seq.{sets-eq, take_at, get_or-append-add, get_or-drop}
+use lib.ListN.{length, replicate, length-append, length-replicate, get_or-eq_default}
+use Rattle.std.specs.List.{filter, range_with_len}
+use Rattle.std.proofs.lemmas.List.{map-append}
 use borrow.Author.Tests.{leb-true, ltb-true, ltb-false, eqb-false}
 use Rattle.rules.specs.Sizes.{slots, domains_most, turns_most, frames_most, mailboxes, bells, entries_most, all_slots}
 use Rattle.rules.specs.State.{FRAME, MAILBOX, State, Places, slot, Holds, objects, WellFormed, Formed}
 use Rattle.rules.specs.Turn.{present}
-use Rattle.rules.specs.Image.{Bytes, header_bytes, entry_bytes, padded, entries_at, length_for, between, bytes_of, source_bytes, entry_for, occupied, entries_for, bytes_for}
+use Rattle.rules.specs.Image.{Bytes, padded, entries_at, length_for, between, bytes_of, source_bytes, entry_for, occupied, entries_for, bytes_for}
 use Rattle.rules.specs.declared.Capability.{Capability}
 use Rattle.rules.proofs.Laws.{both, decided_by}
 use Rattle.rules.proofs.RoundTripEntries.{occupied-most, entries-bytes}
+use Rattle.image.specs.declared.Header.{Header}
 use Rattle.layout.specs.Layout.{Headed}
 use Rattle.layout.specs.declared.Head.{Head}
 use Rattle.write.specs.Written.{sized}
-use Rattle.write.specs.Laid.{low, Laid, Ready}
-use Rattle.write.proofs.Laying.{laid_as}
-use Rattle.write.proofs.Entering.{occupied_fewer}
+use Rattle.write.specs.Laid.{held, low, Ready}
+use Rattle.write.proofs.Entering.{occupied_filter}
 
 -- ---- sizes and length
 
@@ -39,57 +40,60 @@ in-range s h =
     (range-most _ _ l, range-most _ _ m)
 
 -- the slots of the state's domains
-pub slots_of : (at : Places) (d e : ℕ) → d ≡ e → occupied at (d * slots) 0 ≡ occupied at (slot e 0) 0
+slots_of : (at : Places) (d e : ℕ) → d ≡ e → occupied at (d * slots) 0 ≡ occupied at (slot e 0) 0
 slots_of at d e h = ap (λ n. occupied at n 0) (let g : d * slots ≡ slot e 0 = omega arith in g)
 
--- the image's length is what T and C give
-pub size_law : (s : State) → length_for (length s.turns) (length (occupied s.capability (slot s.domains 0) 0)) ≡ length (bytes_for s)
-unfolding bytes_for length_for entries_at padded
-size_law s = simp (length-append, length-replicate, entries-bytes) (omega arith)
+-- the header has as many entries as the rules say
+pub headed : (s : State) {h : Head} {n : ℕ} → sized s ≡ true → Headed s h → n ≡ length (filter (held s.capability) (range_with_len 0 (h.domains * slots)))
+    → Ready s (record { domains = h.domains; turns = h.turns; entries = n; frames = h.frames })
+headed s {h} {n} z e o =
+    let r = in-range s z in
+    record {
+      domains = e.domains;
+      turns = e.turns;
+      entries = o ∙ ap length (occupied_filter s.capability (h.domains * slots) 0);
+      frames = e.frames;
+      domains_in_range = omega (arith, e.domains);
+      turns_in_range = omega (arith, e.turns);
+    }
 
 -- no more entries than slots
-pub entries-most : (s : State) (n : ℕ) → s.domains ≤ domains_most → n ≡ length (occupied s.capability (slot s.domains 0) 0) → n ≤ entries_most
-entries-most s n h e = omega (arith, occupied-most s.capability (slot s.domains 0) 0)
+pub entries-most : (s : State) (h : Header) → Ready s h → h.entries ≤ entries_most
+entries-most s h r = omega (arith, occupied-most s.capability (h.domains * slots) 0, r.domains_in_range, r.entries)
 
--- nothing more is known before the first byte is written
-pub ready : (s : State) {t n long size : ℕ} → sized s ≡ true → t ≡ length s.turns → n ≡ length (occupied s.capability (slot s.domains 0) 0)
-    → size ≡ length_for t n → size ≤ long → Ready s n long
-unfolding length_for entries_at padded
-ready s {t} {n} {long} {size} h e f k l =
-    let (d, u) = in-range s h in
-    let z : size ≡ header_bytes + (t + 3) / 4 * 4 + entry_bytes * n = k in
-    record { domains = d; turns = u; count = f; fits = omega arith }
+-- ---- the whole
 
--- there is room for the entries of some of the slots behind the header, the table and the padding
-pub entries_fit : (s : State) (h : Head) {n long i j at now : ℕ} (p : ℕ) → Headed s h → Ready s n long → i ≡ header_bytes → j ≡ i + length s.turns
-    → at ≡ j + length (replicate {A = ℕ} ((h.turns + 3) / 4 * 4 - h.turns) 0) → now ≡ long → p ≤ slot s.domains 0
-    → at + entry_bytes * length (occupied s.capability p 0) ≤ now
-entries_fit s h p e r f g k l m =
-    let z = length-replicate {A = ℕ} ((h.turns + 3) / 4 * 4 - h.turns) 0 in
-    let o = occupied_fewer s.capability p (slot s.domains 0) m in
-    omega arith
+-- the image's length is what its header says
+pub size_law : (s : State) (h : Header) → Ready s h → length_for h.turns h.entries ≡ length (bytes_for s)
+unfolding bytes_for length_for entries_at padded
+size_law s h r =
+    rw (r.turns, r.entries, slots_of s.capability _ _ r.domains) (simp (length-append, length-replicate, entries-bytes) (omega arith))
+
+-- zeros are their own bytes
+zeros_low : (n : ℕ) → map low (replicate n 0) ≡ replicate n 0
+zeros_low zero = refl
+zeros_low (suc n) = ap (λ l. 0 ∷ l) (zeros_low n)
 
 -- the header, the table, the padding and the entries are the image
-pub filled : {b c : List ℕ} {j long : ℕ} (s : State) (h : Head) (n : ℕ) → Headed s h → Ready s n long
-    → Laid b 0 (((h.domains ∷ h.turns ∷ []) ++ (bytes_of n ++ (bytes_of h.frames ++ (0 ∷ 0 ∷ []))))
-    ++ (s.turns ++ (replicate ((h.turns + 3) / 4 * 4 - h.turns) 0 ++ entries_for s.capability (occupied s.capability (h.domains * slots) 0)))) j c
-    → Laid b 0 (bytes_for s) j c
+pub filled : {a t z e : List ℕ} {n : ℕ} (s : State) (h : Header) → Ready s h
+    → a ≡ map low ((h.domains ∷ h.turns ∷ []) ++ (bytes_of h.entries ++ (bytes_of h.frames ++ (0 ∷ 0 ∷ [])))) → t ≡ map low s.turns
+    → z ≡ replicate n 0 → n ≡ (h.turns + 3) / 4 * 4 - h.turns → e ≡ map low (entries_for s.capability (occupied s.capability (h.domains * slots) 0))
+    → a ++ (t ++ (z ++ e)) ≡ map low (bytes_for s)
 unfolding bytes_for padded
-filled s h n e r l = laid_as (rw (slots_of s.capability _ _ e.domains, r.count, e.domains, e.turns, e.frames)) l
+filled s h r i j k l m =
+    let ps = occupied s.capability (slot s.domains 0) 0 in
+    let head = (s.domains ∷ length s.turns ∷ []) ++ (bytes_of (length ps) ++ (bytes_of s.frames ++ (0 ∷ 0 ∷ []))) in
+    let zeros = replicate {A = ℕ} ((length s.turns + 3) / 4 * 4 - length s.turns) 0 in
+    rw (i, j, k, l, m, r.entries, slots_of s.capability _ _ r.domains, r.domains, r.turns, r.frames)
+    (sym (map-append low head (s.turns ++ (zeros ++ entries_for s.capability ps)) ∙ ap (λ y. map low head ++ y)
+    (map-append low s.turns (zeros ++ entries_for s.capability ps) ∙ ap (λ y. map low s.turns ++ y)
+    (map-append low zeros (entries_for s.capability ps) ∙ ap (λ y. y ++ map low (entries_for s.capability ps)) (zeros_low _)))))
 
 -- ---- bytes
 
 -- each is a byte
 record Small (l : List ℕ) : Type 0 where
   each : Bytes l
-
--- a number below 256 is its own byte
-low_same : (l : List ℕ) → Bytes l → map low l ≡ l
-low_same [] h = refl
-low_same (x ∷ l) h =
-    let w = h 0 in
-    let e : x % 256 ≡ x = omega arith in
-    rw (e, low_same l (λ i. h (suc i)))
 
 small_none : Small []
 small_none = record { each = λ i. omega arith }
@@ -179,26 +183,3 @@ bytes-written s f =
     and small-turns s f and small-zeros (padded (length s.turns) - length s.turns)
     and small-entries s.capability s.frames (slot s.domains 0) 0 (omega arith) r.1 f.capability in
     whole.each
-
--- ---- what stands in the buffer
-
-module _ {b c xs : List ℕ} {j : ℕ} (l : Laid b 0 xs j c) (h : length xs ≤ length b) where
-  -- numbers written from the buffer's beginning on
-  laid_whole : c ≡ map low xs ++ drop (length xs) b
-  laid_whole =
-      let e : length (map low xs) ≡ length xs = length-map xs low in
-      let z : 0 + length (map low xs) ≡ length xs = omega arith in
-      l.bytes ∙ (sets-eq (map low xs) b 0 (omega arith) ∙ ap (λ n. map low xs ++ drop n b) z)
-
-  -- they stand there
-  pub laid_front : Bytes xs → take (length xs) c ≡ xs
-  laid_front y = rw (laid_whole, take_at (map low xs) _ (length xs) (length-map xs low), low_same xs y)
-
-  -- what is behind them is as it was
-  pub laid_behind : (k : ℕ) → length xs ≤ k → get_or c k 0 ≡ get_or b k 0
-  laid_behind k g =
-      let e : length (map low xs) ≡ length xs = length-map xs low in
-      let at : length (map low xs) + (k - length xs) ≡ k = omega arith in
-      let to : length xs + (k - length xs) ≡ k = omega arith in
-      rw laid_whole (ap (λ i. get_or (map low xs ++ drop (length xs) b) i 0) (sym at) ∙ (get_or-append-add (map low xs) _ (k - length xs) 0
-      ∙ (get_or-drop (length xs) b (k - length xs) 0 ∙ ap (λ i. get_or b i 0) to)))

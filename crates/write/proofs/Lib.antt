@@ -1,4 +1,3 @@
-pub mod Laying
 pub mod Entering
 pub mod Tests
 pub mod Filling

@@ -16,7 +16,7 @@ use Rattle.rules.proofs.Laws.{decided_by}
 use Rattle.rules.proofs.Places.{same?}
 use Rattle.rules.proofs.RoundTrip.{written_read, read-written}
 use Rattle.layout.specs.Layout.{state_of, words_for}
-use Rattle.layout.proofs.Cells.{frames_law, word-past, word_beyond, bell-past, message-past}
+use Rattle.layout.proofs.Cells.{frames_law, word_outside, word_beyond, bell-past, message-past}
 use Rattle.turn.specs.Turned.{Good}
 use Rattle.boot.specs.Booted.{Booted}
 use Rattle.boot.proofs.Loading.{boot-good}
@@ -47,7 +47,7 @@ write-after-read b m n y d buffer c r size w l =
 in_memory : (m : List ℕ) → Proper (state_of m)
 in_memory m =
     record {
-      frames = λ f l w. sym (word-past m f w (rw frames_law at l));
+      frames = λ f l w. sym (word_outside m f w (inr (rw frames_law at l)));
       words = λ f w l. sym (word_beyond m f w l);
       bells = λ b l. sym (bell-past m b l);
       mailboxes = λ b l. sym (message-past m b l);

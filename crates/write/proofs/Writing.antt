@@ -1,22 +1,21 @@
 -- Each way in which writing ends, as the contract says. Assumes nothing.
 use mathlib.Core.Path.{◌≡◌, refl, sym, ap, ◌∙◌}
 use mathlib.Core.Bool.{Bool, true, false, cond, ◌&&◌}
-use mathlib.Core.List.{List}
-use Prim.Native.Nat.{ℕ, ◌*◌, ◌≤◌, ◌<◌}
+use mathlib.Core.List.{List, [], ◌∷◌, ◌++◌, map}
+use Prim.Native.Nat.{ℕ, suc, ◌+◌, ◌-◌, ◌%◌, ◌≤◌, ◌<◌}
 use native.Mathlib.Omega.{arith}
-use lib.Dec.{leb}
-use lib.ListN.{length}
-use borrow.Author.Tests.{leb-false, le-leb}
-use Rattle.rules.specs.Sizes.{slots}
-use Rattle.rules.specs.State.{State, slot, Formed}
-use Rattle.rules.specs.Image.{between, length_for, occupied, bytes_for, writable, image, unwritable, write}
+use lib.ListN.{length, get_or, drop, length-append, length-drop, length-map}
+use lib.Seq.{take_at, get_or-append-add, get_or-drop}
+use borrow.Author.Tests.{le-leb}
+use Rattle.rules.specs.State.{State, Formed}
+use Rattle.rules.specs.Image.{Bytes, between, length_for, bytes_for, writable, image, unwritable, write}
 use Rattle.rules.proofs.Laws.{both, not_both}
-use Rattle.layout.specs.Layout.{state_of, need, Enough, Headed}
-use Rattle.layout.specs.declared.Head.{Head}
+use Rattle.layout.specs.Layout.{state_of, Enough}
+use Rattle.image.specs.declared.Header.{Header}
 use Rattle.turn.specs.Turned.{Good}
 use Rattle.write.specs.Written.{sized, Wrote}
-use Rattle.write.specs.Laid.{Laid}
-use Rattle.write.proofs.Filling.{slots_of, size_law, bytes-written, laid_front, laid_behind}
+use Rattle.write.specs.Laid.{low, Ready}
+use Rattle.write.proofs.Filling.{size_law, bytes-written}
 
 -- ---- what the rules write
 
@@ -46,28 +45,25 @@ sized-formed s f =
     let (g, h) = f.frames in
     rw (le-leb _ _ a, le-leb _ _ b, le-leb _ _ c, le-leb _ _ d, le-leb _ _ g, le-leb _ _ h)
 
--- as many entries as the rules say
-pub count_is : (m : List ℕ) {h : Head} {n : ℕ} → Headed (state_of m) h → n ≡ length (occupied (state_of m).capability (h.domains * slots) 0)
-    → n ≡ length (occupied (state_of m).capability (slot (state_of m).domains 0) 0)
-count_is m k o = o ∙ ap length (slots_of (state_of m).capability _ _ k.domains)
+-- ---- what stands in the buffer
+
+-- a number below 256 is its own byte
+low_same : (l : List ℕ) → Bytes l → map low l ≡ l
+low_same [] h = refl
+low_same (x ∷ l) h =
+    let w = h 0 in
+    let e : x % 256 ≡ x = omega arith in
+    rw (e, low_same l (λ i. h (suc i)))
+
+-- what is behind the first bytes is as it was
+behind : (b xs : List ℕ) (size : ℕ) → length xs ≡ size → (k : ℕ) → size ≤ k → get_or (xs ++ drop size b) k 0 ≡ get_or b k 0
+behind b xs size e k h =
+    let at : length xs + (k - size) ≡ k = omega arith in
+    let to : size + (k - size) ≡ k = omega arith in
+    ap (λ i. get_or (xs ++ drop size b) i 0) (sym at) ∙ (get_or-append-add xs _ (k - size) 0
+    ∙ (get_or-drop size b (k - size) 0 ∙ ap (λ i. get_or b i 0) to))
 
 -- ---- each way
-
--- 29
-pub wrote-short : {m b : List ℕ} {t : Bool} → t ≡ leb (need m) (length m) → t ≡ false → Wrote m b 29 0 b
-wrote-short {m} {b} e z =
-    let h = leb-false (need m) (length m) (sym e ∙ z) in
-    record {
-      long = refl;
-      within = omega arith;
-      behind = λ k l. refl;
-      refused = λ n. (refl, refl);
-      short = λ l. refl;
-      unwritten = λ g. absurd (omega arith);
-      unsized = λ g. absurd (omega arith);
-      small = λ g. absurd (let w = g.enough in omega arith);
-      written = λ g. absurd (let w = g.enough in omega arith);
-    }
 
 module _ (m : List ℕ) (enough : Enough m) where
   -- 27
@@ -95,11 +91,10 @@ module _ (m : List ℕ) (enough : Enough m) where
     is_writable : writable (state_of m) ≡ true
     is_writable = (both (sized (state_of m)) (writable (state_of m)) able).1
 
-    module _ {t n size : ℕ} (e : t ≡ length (state_of m).turns) (f : n ≡ length (occupied (state_of m).capability (slot (state_of m).domains 0) 0))
-        (k : size ≡ length_for t n) where
+    module _ {h : Header} {size : ℕ} (r : Ready (state_of m) h) (k : size ≡ length_for h.turns h.entries) where
       -- the size is the image's
       size_is : size ≡ length (bytes_for (state_of m))
-      size_is = k ∙ (rw (e, f) refl ∙ size_law (state_of m))
+      size_is = k ∙ size_law (state_of m) h r
 
       -- 28
       pub wrote-small : {b : List ℕ} → length b < size → Wrote m b 28 0 b
@@ -117,19 +112,19 @@ module _ (m : List ℕ) (enough : Enough m) where
           }
 
       -- 0
-      pub wrote-image : {b c : List ℕ} {j : ℕ} → size ≤ length b → Laid b 0 (bytes_for (state_of m)) j c → Wrote m b 0 size c
-      wrote-image {b} l w =
-          let z = size_is in
+      pub wrote-image : {b xs : List ℕ} → size ≤ length b → xs ≡ map low (bytes_for (state_of m)) → Wrote m b 0 size (xs ++ drop size b)
+      wrote-image {b} {xs} l w =
+          let z : length xs ≡ size = ap length w ∙ (length-map (bytes_for (state_of m)) low ∙ sym size_is) in
           record {
-            long = w.long;
+            long = length-append xs (drop size b) ∙ (let d = length-drop size b in omega arith);
             within = l;
-            behind = λ k q. laid_behind w (omega arith) k (omega arith);
+            behind = behind b xs size z;
             refused = λ n. absurd (n refl);
             short = λ l. absurd (omega arith);
             unwritten = λ g q. absurd (write_none (state_of m) is_writable q);
             unsized = λ g q. absurd (not_both is_sized q);
-            small = λ g bs q r. absurd (let i = ap length (write-image (state_of m) bs q).1 in omega arith);
+            small = λ g bs q r. absurd (let i = ap length (write-image (state_of m) bs q).1 in omega (arith, size_is));
             written = λ g bs q r.
                 let i = (write-image (state_of m) bs q).1 in
-                (refl, rw (← i) z, rw (z, ← i) (laid_front w (omega arith) (bytes-written (state_of m) g.formed)));
+                (refl, size_is ∙ ap length i, take_at xs (drop size b) size z ∙ (w ∙ (low_same _ (bytes-written (state_of m) g.formed) ∙ i)));
           }

@@ -1,14 +1,20 @@
 -- The contract of writing the image of the state in memory. Assumes nothing.
-use Rattle.std.specs.Prelude.{◌≡◌, Bool, false, ◌&&◌, List, ℕ, ◌≤◌, ◌<◌, length, get_or, take}
+use Rattle.std.specs.Prelude.{◌≡◌, Result, Ok, Err, Bool, false, ◌&&◌, List, ℕ, ◌≤◌, ◌<◌, length, get_or, take}
 use Rattle.rules.specs.Sizes.{domains_most, turns_most, frames_most}
 use Rattle.rules.specs.State.{State}
 use Rattle.rules.specs.Image.{between, image, unwritable, write}
 use Rattle.layout.specs.Layout.{state_of, need, Enough}
+use Rattle.rules.specs.declared.Refusal.{Refusal}
 use Rattle.turn.specs.Turned.{Good}
 
 -- D, T and F are in range, as they are in good memory
 unfoldable pub sized : State → Bool
 sized s = between 1 domains_most s.domains && between 1 turns_most (length s.turns) && between 1 frames_most s.frames
+
+-- the size of what was written, 0 after a refusal
+abbrev pub size_of : Result ℕ Refusal → ℕ
+size_of (Ok n) = n
+size_of (Err e) = 0
 
 -- writing the image of the state in memory m into the buffer b answers r and a size, and leaves c
 pub record Wrote (m b : List ℕ) (r size : ℕ) (c : List ℕ) : Type 0 where

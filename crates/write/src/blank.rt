@@ -1,106 +1,67 @@
 // Whether an image describes the state in memory: sizes in range, empty mailboxes, frames and bells all 0, position 0. It only reads, and
 // each test is exact on any memory that is long enough.
 ghost use Rattle.std.specs.Prelude.{◌≡◌, ◌&&◌};
-ghost use Rattle.rules.specs.Sizes.{mailboxes, bells, domains_most, turns_most, frames_most};
-ghost use Rattle.rules.specs.Image.{between, all_below, writable};
-ghost use Rattle.layout.specs.Layout.{state_of, Enough};
+ghost use Rattle.rules.specs.Sizes.{mailboxes, bells, frame_words, domains_most, turns_most, frames_most};
+ghost use Rattle.rules.specs.Image.{between, writable};
+ghost use Rattle.layout.specs.Layout.{state_of};
 ghost use Rattle.write.specs.Written.{sized};
-ghost use Rattle.write.specs.Laid.{empty, zero_frame, zero_bell};
+ghost use Rattle.write.specs.Laid.{each_below, no_mail, zero_word, zero_bell};
 
-use layout::Head;
-
-const MAILBOXES: u32 = 64;
-
-const BELLS: u32 = 64;
-
-const FRAME_WORDS: u32 = 256;
+use layout::{Head, Memory};
+use rules::{BELLS, DOMAINS_MOST, FRAME_WORDS, FRAMES_MOST, MAILBOXES, TURNS_MOST};
 
 // D, T and F are in range.
 fn in_range(h: Head) -> bool
     ensures { result ≡ between 1 domains_most h.domains && between 1 turns_most h.turns && between 1 frames_most h.frames }
 {
-    ((1 <= h.domains) & (h.domains <= 16))
-        & ((1 <= h.turns) & (h.turns <= 64))
-        & ((1 <= h.frames) & (h.frames <= 256))
+    ((1 <= h.domains) & (h.domains <= DOMAINS_MOST))
+        & ((1 <= h.turns) & (h.turns <= TURNS_MOST))
+        & ((1 <= h.frames) & (h.frames <= FRAMES_MOST))
 }
 
 // The mailboxes are empty.
-fn mailboxes_empty(mem: &[u32]) -> bool
-    requires { Enough mem.now }
-    ensures { result ≡ all_below mailboxes (empty (state_of mem.now)) }
+fn mailboxes_empty(memory: &Memory<'_>) -> bool
+    ensures { result ≡ each_below mailboxes (no_mail (state_of memory.now.words.now)) }
 {
-    let mut i = 0;
-    while i < MAILBOXES {
-        let g = layout::message(mem, i);
-        if g.full != 0 {
-            return false;
-        }
-        i += 1;
-    }
-    true
+    (0..MAILBOXES).all(|m| memory.message(m).full == 0)
 }
 
 // Frame f is all 0.
-fn frame_zero(mem: &[u32], f: u32) -> bool
-    requires { Enough mem.now }
-    ensures { result ≡ zero_frame (state_of mem.now) f }
+fn frame_zero(memory: &Memory<'_>, f: u32) -> bool
+    ensures { result ≡ each_below frame_words (zero_word (state_of memory.now.words.now) f) }
 {
-    let mut w = 0;
-    while w < FRAME_WORDS {
-        if layout::word(mem, f, w) != 0 {
-            return false;
-        }
-        w += 1;
-    }
-    true
+    (0..FRAME_WORDS).all(|w| memory.word(f, w) == 0)
 }
 
 // The first n frames are all 0.
-fn frames_zero(mem: &[u32], n: u32) -> bool
-    requires { Enough mem.now }
-    ensures { result ≡ all_below n (zero_frame (state_of mem.now)) }
+fn frames_zero(memory: &Memory<'_>, n: u32) -> bool
+    ensures { result ≡ each_below n (λ f. each_below frame_words (zero_word (state_of memory.now.words.now) f)) }
 {
-    let mut f = 0;
-    while f < n {
-        if !frame_zero(mem, f) {
-            return false;
-        }
-        f += 1;
-    }
-    true
+    (0..n).all(|f| frame_zero(memory, f))
 }
 
 // The bells are 0.
-fn bells_zero(mem: &[u32]) -> bool
-    requires { Enough mem.now }
-    ensures { result ≡ all_below bells (zero_bell (state_of mem.now)) }
+fn bells_zero(memory: &Memory<'_>) -> bool
+    ensures { result ≡ each_below bells (zero_bell (state_of memory.now.words.now)) }
 {
-    let mut b = 0;
-    while b < BELLS {
-        if layout::bell(mem, b) != 0 {
-            return false;
-        }
-        b += 1;
-    }
-    true
+    (0..BELLS).all(|b| memory.bell(b) == 0)
 }
 
 // The state has sizes that an image can have, and it can be written.
-pub fn describable(mem: &[u32]) -> bool
-    requires { Enough mem.now }
-    ensures { result ≡ sized (state_of mem.now) && writable (state_of mem.now) }
+pub fn describable(memory: &Memory<'_>) -> bool
+    ensures { result ≡ sized (state_of memory.now.words.now) && writable (state_of memory.now.words.now) }
 {
-    let h = layout::head_of(mem);
+    let h = memory.head();
     if !in_range(h) {
         return false;
     }
-    if !mailboxes_empty(mem) {
+    if !mailboxes_empty(memory) {
         return false;
     }
-    if !frames_zero(mem, h.frames) {
+    if !frames_zero(memory, h.frames) {
         return false;
     }
-    if !bells_zero(mem) {
+    if !bells_zero(memory) {
         return false;
     }
     h.position == 0

@@ -1,165 +1,125 @@
 // Writing the image of the state in memory, document 01, section 5. Memory is only read. The buffer is written only once nothing refuses:
-// first the state is looked through for refusal 27, then the entries are counted for refusal 28, then the bytes are written one behind the
-// other, from the header to the last entry. On any memory each function does exactly what the rules say of the state that stands there; a
-// number that no byte holds, which good memory does not have, is written modulo 256.
+// first the state is looked through for refusal 27, then the entries are counted for refusal 28, then the front of the buffer that just
+// holds the image is split into header, turns, padding and entries, and each is written. On any memory each function does exactly what the
+// rules say of the state that stands there; a number that no byte holds, which good memory does not have, is written modulo 256.
 #![tactic(auto)]
 
 mod blank;
 mod put;
 
-ghost use Rattle.std.specs.Prelude.{◌≡◌, ◌+◌, ◌*◌, ◌≤◌, ◌<◌, length};
-ghost use Rattle.rules.specs.Sizes.{places, turns_most, entries_most};
+ghost use Rattle.std.specs.Prelude.{◌≡◌, ◌*◌, ◌≤◌, length, map, true};
+ghost use Rattle.std.specs.List.{filter, range_with_len};
+ghost use Rattle.rules.specs.Refusal.{status_of};
+ghost use Rattle.rules.specs.Sizes.{places, turns_most};
 ghost use Rattle.rules.specs.Image.{entry_bytes, length_for, occupied, entries_for, bytes_for};
-ghost use Rattle.layout.specs.Layout.{state_of, Enough};
-ghost use Rattle.write.specs.Written.{Wrote};
-ghost use Rattle.write.specs.Laid.{Laid, Ready};
+ghost use Rattle.layout.specs.Layout.{state_of};
+ghost use Rattle.write.specs.Written.{sized, size_of, Wrote};
+ghost use Rattle.write.specs.Laid.{held, low, Ready};
 
-// The bytes of the header and of an entry.
-const HEADER: u32 = 8;
-
-const ENTRY: u32 = 12;
-
-// The slots of a domain.
-const SLOTS: u32 = 64;
-
-// A state that no image describes, a buffer that is too short, and memory that is.
-const UNWRITABLE: u32 = 27;
-
-const TOO_SMALL: u32 = 28;
-
-const TOO_SHORT: u32 = 29;
-
-// The answer, 0 or a refusal, and how many bytes the image has, 0 after a refusal.
-#[derive(Clone, Copy)]
-pub struct Written {
-    pub status: u32,
-    pub size: u32,
-}
-
-// 1 where place p holds a capability, else 0.
-fn held(mem: &[u32], p: u32) -> u32
-    requires enough { Enough mem.now }
-    requires p_in_range { p < places }
-    ensures { (result ≡ length (occupied (state_of mem.now).capability 1 p)) × (result ≤ 1) }
-{
-    let seen = layout::see(mem, p, 0);
-    let c = seen.capability;
-    if c.kind == 0 {
-        return 0;
-    }
-    1
-}
+use image::{ENTRY, HEADER, Header};
+use layout::Memory;
+pub use put::{entry, header};
+use rules::{Refusal, SLOTS};
 
 // How many of the first n places hold a capability.
-fn count(mem: &[u32], n: u32) -> u32
-    requires enough { Enough mem.now }
+fn count(memory: &Memory<'_>, n: u32) -> u32
     requires n_in_range { n ≤ places }
-    ensures { result ≡ length (occupied (state_of mem.now).capability n 0) }
+    ensures { result ≡ length (filter (held (state_of memory.now.words.now).capability) (range_with_len 0 n)) }
 {
-    let mut total = 0;
-    let mut p = 0;
-    while p < n {
-        total += held(mem, p);
-        p += 1;
+    (0..n).filter(|p| memory.see(*p, &mut 0).kind != 0).count() as u32
+}
+
+// The header of the state's image.
+fn header_of(memory: &Memory<'_>) -> Header
+    requires { sized (state_of memory.now.words.now) ≡ true }
+    ensures { Ready (state_of memory.now.words.now) result }
+{
+    let head = memory.head();
+    Header {
+        domains: head.domains,
+        turns: head.turns,
+        entries: count(memory, head.domains * SLOTS),
+        frames: head.frames,
     }
-    total
 }
 
-// The bytes of an image with so many turns and entries.
-fn size_for(turns: u32, entries: u32) -> u32
-    requires turns_in_range { turns ≤ turns_most }
-    requires entries_in_range { entries ≤ entries_most }
-    ensures { result ≡ length_for turns entries }
+// The bytes of an image with this header.
+#[tactic(auto, unfolding(rules::specs::Image::length_for, rules::specs::Image::entries_at, rules::specs::Image::padded))]
+fn size_for(h: Header) -> usize
+    requires { h.turns ≤ turns_most }
+    ensures { result ≡ length_for h.turns h.entries }
 {
-    HEADER + (turns + 3) / 4 * 4 + ENTRY * entries
+    h.entries_at() + ENTRY * h.entries as usize
 }
 
-// The domains of the first n turns of the table, from byte i on.
-fn table(mem: &[u32], image: &mut [u8], i: usize, n: u32) -> usize
-    requires enough { Enough mem.now }
-    requires n_is { n ≡ length (state_of mem.now).turns }
-    requires image_long_enough { i + n ≤ length image.old }
-    ensures { Laid image.old i (state_of mem.now).turns result image.new }
+// The domains of the turns into the table.
+fn table(memory: &Memory<'_>, turns: &mut [u8])
+    requires turns_fit { length turns.old ≡ length (state_of memory.now.words.now).turns }
+    requires turns_in_range { length turns.old ≤ turns_most }
+    ensures { turns.new ≡ map low (state_of memory.now.words.now).turns }
 {
-    let mut at = i;
-    let mut k = 0;
-    while k < n {
-        at = put::byte(image, at, layout::turn_at(mem, k));
-        k += 1;
+    for (k, turn) in turns.iter_mut().enumerate() {
+        *turn = put::byte(memory.turn_at(k as u32));
     }
-    at
 }
 
-// The entry of place p at byte i, where it holds a capability.
-fn entry_of(mem: &[u32], image: &mut [u8], i: usize, p: u32) -> usize
-    requires enough { Enough mem.now }
-    requires p_in_range { p < places }
-    requires image_long_enough { i + entry_bytes * length (occupied (state_of mem.now).capability 1 p) ≤ length image.old }
-    ensures { Laid image.old i (entries_for (state_of mem.now).capability (occupied (state_of mem.now).capability 1 p)) result image.new }
-{
-    let seen = layout::see(mem, p, 0);
-    let c = seen.capability;
-    if c.kind == 0 {
-        return i;
-    }
-    put::entry(image, i, p, c)
-}
-
-// The entries of the first n places, from byte i on.
-fn entries(mem: &[u32], image: &mut [u8], i: usize, n: u32) -> usize
-    requires enough { Enough mem.now }
+// The entries of the first n places into bytes that just hold them.
+#[tactic(auto, using(crate::proofs::Entering::entry_fits))]
+fn entries(memory: &Memory<'_>, bytes: &mut [u8], n: u32)
     requires n_in_range { n ≤ places }
-    requires image_long_enough { i + entry_bytes * length (occupied (state_of mem.now).capability n 0) ≤ length image.old }
-    ensures { Laid image.old i (entries_for (state_of mem.now).capability (occupied (state_of mem.now).capability n 0)) result image.new }
+    requires bytes_fit { length bytes.old ≡ entry_bytes * length (occupied (state_of memory.now.words.now).capability n 0) }
+    ensures { bytes.new ≡ map low (entries_for (state_of memory.now.words.now).capability (occupied (state_of memory.now.words.now).capability n 0)) }
 {
-    let mut at = i;
-    let mut q = 0;
-    while q < n {
-        at = entry_of(mem, image, at, q);
-        q += 1;
+    // A position, not chunks: nothing is known of what is written into the library's chunks of a slice.
+    let mut at = 0;
+    for p in 0..n {
+        let c = memory.see(p, &mut 0);
+        if c.kind != 0 {
+            bytes[at..at + ENTRY].copy_from_slice(&put::entry(p, c));
+            at += ENTRY;
+        }
     }
-    at
 }
 
-// The whole image, which has n entries, into a buffer that is long enough.
-fn fill(mem: &[u32], image: &mut [u8], n: u32) -> usize
-    requires enough { Enough mem.now }
-    requires ready { Ready (state_of mem.now) n (length image.old) }
-    ensures { Laid image.old 0 (bytes_for (state_of mem.now)) result image.new }
+// The whole image, whose header is h, into bytes that just hold it.
+#[tactic(auto, unfolding(rules::specs::Image::length_for, rules::specs::Image::entries_at, rules::specs::Image::padded))]
+fn fill(memory: &Memory<'_>, image: &mut [u8], h: Header)
+    requires ready { Ready (state_of memory.now.words.now) h }
+    requires image_fits { length image.old ≡ length_for h.turns h.entries }
+    ensures { image.new ≡ map low (bytes_for (state_of memory.now.words.now)) }
 {
-    let h = layout::head_of(mem);
-    let turns = put::header(image, h.domains, h.turns, n, h.frames);
-    let padding = table(mem, image, turns, h.turns);
-    let first = put::zeros(image, padding, (h.turns + 3) / 4 * 4 - h.turns);
-    entries(mem, image, first, h.domains * SLOTS)
+    let (header, rest) = image.split_at_mut(HEADER);
+    let (turns, rest) = rest.split_at_mut(h.turns as usize);
+    let (padding, bytes) = rest.split_at_mut(h.entries_at() - HEADER - h.turns as usize);
+    header.copy_from_slice(&put::header(h));
+    table(memory, turns);
+    padding.fill(0);
+    entries(memory, bytes, h.domains * SLOTS);
 }
 
-// The image of the state in memory into the buffer. Memory that is too short is refused with 29; a state that no image describes, with 27; a
-// buffer that is too short, with 28. A refusal leaves the buffer as it was.
-pub fn write(mem: &[u32], image: &mut [u8]) -> Written
-    ensures { Wrote mem.now image.old result.status result.size image.new }
+// The same as write, of memory that is long enough.
+fn written(memory: &Memory<'_>, image: &mut [u8]) -> Result<u32, Refusal>
+    ensures { Wrote memory.now.words.now image.old (status_of result) (size_of result) image.new }
 {
-    if !layout::enough(mem) {
-        return Written {
-            status: TOO_SHORT,
-            size: 0,
-        };
+    if !blank::describable(memory) {
+        return Err(Refusal::Unwritable);
     }
-    if !blank::describable(mem) {
-        return Written {
-            status: UNWRITABLE,
-            size: 0,
-        };
+    let h = header_of(memory);
+    let size = size_for(h);
+    if image.len() < size {
+        return Err(Refusal::BufferShort);
     }
-    let h = layout::head_of(mem);
-    let n = count(mem, h.domains * SLOTS);
-    let size = size_for(h.turns, n);
-    if image.len() < size as usize {
-        return Written {
-            status: TOO_SMALL,
-            size: 0,
-        };
+    fill(memory, &mut image[..size], h);
+    Ok(size as u32)
+}
+
+// The image of the state in memory into the buffer, and how many bytes it has. Memory that is too short is refused with 29; a state that no
+// image describes, with 27; a buffer that is too short, with 28. A refusal leaves the buffer as it was.
+pub fn write(mem: &[u32], image: &mut [u8]) -> Result<u32, Refusal>
+    ensures { Wrote mem.now image.old (status_of result) (size_of result) image.new }
+{
+    match Memory::of(mem) {
+        Some(memory) => written(&memory, image),
+        None => Err(Refusal::TooShort),
     }
-    fill(mem, image, n);
-    Written { status: 0, size }
 }

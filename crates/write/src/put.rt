@@ -1,93 +1,85 @@
-// Numbers written into a buffer as bytes, one behind the other: each function writes from byte i on and answers the next byte's index.
-// Numbers of two bytes have the high byte first; a number that no byte holds is written modulo 256.
-ghost use Rattle.std.specs.Prelude.{◌≡◌, [], ◌∷◌, ◌++◌, ◌+◌, ◌/◌, ◌%◌, ◌≤◌, ◌<◌, length, replicate};
+// The parts of an image as arrays of bytes. Numbers of two bytes have the high byte first; a number that no byte holds is written modulo
+// 256.
+ghost use Rattle.std.specs.Prelude.{◌≡◌, [], ◌∷◌, ◌++◌, ◌/◌, ◌%◌, map};
 ghost use Rattle.rules.specs.Sizes.{slots};
-ghost use Rattle.rules.specs.Image.{bytes_of, header_bytes, entry_bytes, source_bytes, entry_for};
-ghost use Rattle.write.specs.Laid.{Laid};
+ghost use Rattle.rules.specs.Image.{bytes_of, source_bytes, entry_for};
+ghost use Rattle.write.specs.Laid.{low};
 
-use rules::Capability;
-
-// The slots of a domain.
-const SLOTS: u32 = 64;
-
-// The domain of no source.
-const NO_DOMAIN: u32 = 255;
+use image::{ENTRY, HEADER, Header, NO_DOMAIN};
+use rules::{Capability, SLOTS};
 
 // One byte.
-pub fn byte(image: &mut [u8], i: usize, v: u32) -> usize
-    requires { i < length image.old }
-    ensures { Laid image.old i (v ∷ []) result image.new }
+pub fn byte(v: u32) -> u8
+    ensures { result ≡ low v }
 {
-    image[i] = (v % 256) as u8;
-    i + 1
+    (v % 256) as u8
 }
 
 // A number of two bytes.
-fn two(image: &mut [u8], i: usize, v: u32) -> usize
-    requires { i + 2 ≤ length image.old }
-    ensures { Laid image.old i (bytes_of v) result image.new }
+fn two(v: u32) -> [u8; 2]
+    ensures { result ≡ map low (bytes_of v) }
 {
-    let next = byte(image, i, v / 256);
-    byte(image, next, v % 256)
+    [byte(v / 256), byte(v)]
 }
 
 // The domain and the slot of place p.
-fn place(image: &mut [u8], i: usize, p: u32) -> usize
-    requires { i + 2 ≤ length image.old }
-    ensures { Laid image.old i (p / slots ∷ p % slots ∷ []) result image.new }
+fn place(p: u32) -> [u8; 2]
+    ensures { result ≡ map low (p / slots ∷ p % slots ∷ []) }
 {
-    let next = byte(image, i, p / SLOTS);
-    byte(image, next, p % SLOTS)
+    [byte(p / SLOTS), byte(p % SLOTS)]
 }
 
 // The domain and the slot of source number x, or 255 and 0 where there is none.
-fn source(image: &mut [u8], i: usize, x: u32) -> usize
-    requires { i + 2 ≤ length image.old }
-    ensures { Laid image.old i (source_bytes x) result image.new × (result ≡ i + 2) }
+#[tactic(auto, unfolding(rules::specs::Image::source_bytes))]
+fn source(x: u32) -> [u8; 2]
+    ensures { result ≡ map low (source_bytes x) }
 {
     if x == 0 {
-        let next = byte(image, i, NO_DOMAIN);
-        return byte(image, next, 0);
+        [byte(NO_DOMAIN), 0]
+    } else {
+        place(x - 1)
     }
-    place(image, i, x - 1)
 }
 
 // The entry for place p, which holds c.
-pub fn entry(image: &mut [u8], i: usize, p: u32, c: Capability) -> usize
-    requires { i + entry_bytes ≤ length image.old }
-    ensures { Laid image.old i (entry_for p c) result image.new }
+#[tactic(auto, unfolding(rules::specs::Image::entry_for))]
+pub fn entry(p: u32, c: Capability) -> [u8; ENTRY]
+    ensures { result ≡ map low (entry_for p c) }
 {
-    let kind = place(image, i, p);
-    let rights = byte(image, kind, c.kind);
-    let object = byte(image, rights, c.rights);
-    let badge = two(image, object, c.object);
-    let from = two(image, badge, c.badge);
-    let last = source(image, from, c.source);
-    two(image, last, 0)
+    let [domain, slot] = place(p);
+    let [object, object_low] = two(c.object);
+    let [badge, badge_low] = two(c.badge);
+    let [source_domain, source_slot] = source(c.source);
+    [
+        domain,
+        slot,
+        byte(c.kind),
+        byte(c.rights),
+        object,
+        object_low,
+        badge,
+        badge_low,
+        source_domain,
+        source_slot,
+        0,
+        0,
+    ]
 }
 
 // The header: D, T, C, F and 0.
-pub fn header(image: &mut [u8], domains: u32, turns: u32, entries: u32, frames: u32) -> usize
-    requires { header_bytes ≤ length image.old }
-    ensures { Laid image.old 0 ((domains ∷ turns ∷ []) ++ (bytes_of entries ++ (bytes_of frames ++ (0 ∷ 0 ∷ [])))) result image.new }
+pub fn header(h: Header) -> [u8; HEADER]
+    ensures { result ≡ map low ((h.domains ∷ h.turns ∷ []) ++ (bytes_of h.entries ++ (bytes_of h.frames ++ (0 ∷ 0 ∷ [])))) }
 {
-    let second = byte(image, 0, domains);
-    let third = byte(image, second, turns);
-    let fifth = two(image, third, entries);
-    let last = two(image, fifth, frames);
-    two(image, last, 0)
-}
-
-// So many bytes that are 0.
-pub fn zeros(image: &mut [u8], i: usize, n: u32) -> usize
-    requires { i + n ≤ length image.old }
-    ensures { Laid image.old i (replicate n 0) result image.new }
-{
-    let mut at = i;
-    let mut k = 0;
-    while k < n {
-        at = byte(image, at, 0);
-        k += 1;
-    }
-    at
+    let [entries, entries_low] = two(h.entries);
+    let [frames, frames_low] = two(h.frames);
+    [
+        byte(h.domains),
+        byte(h.turns),
+        entries,
+        entries_low,
+        frames,
+        frames_low,
+        0,
+        0,
+    ]
 }

@@ -1,27 +1,24 @@
 -- Answers for `boot::entries`. Assumes nothing.
 use native.Mathlib.Omega.{arith}
-use Rattle.boot.proofs.Loading.{right, entries-low, entered_since, entered_now, entered_end}
+use mathlib.Core.Path.{◌≡◌}
+use Rattle.rules.specs.Image.{size_c}
+use Rattle.boot.proofs.Loading.{entered_enough, fetched_place, fetched_entered}
 use Rattle.boot.proofs.entries.Goals as goal
 
 pub loop-i-init : goal.loop-i-init
-loop-i-init c = (omega arith, c.requires.entered)
+loop-i-init c = c.requires.entered
 
-pub overflow_mul-i : goal.overflow_mul-i
-overflow_mul-i c =
-    let f = right _ c.requires.not_refused in
-    omega arith
+pub place-requires-clause-enough : goal.place-requires-clause-enough
+place-requires-clause-enough c = entered_enough c.loop-i.invariant c.requires.mem_long_enough
 
-pub overflow_add-first : goal.overflow_add-first
-overflow_add-first c =
-    let f = right _ c.requires.not_refused in
-    let g = entries-low f in
-    omega arith
-
-pub enter-requires : goal.enter-requires
-enter-requires c = record { not_refused = c.requires.not_refused; i_in_range = omega arith; at_is = omega arith; mem_long_enough = omega arith; entered = entered_now c.loop-i.invariant.1 }
+pub place-requires-clause-p_in_range : goal.place-requires-clause-p_in_range
+place-requires-clause-p_in_range c = fetched_place c.args.accepted.now.not_refused (omega arith) c.entry-entry.ensures c.place-p.ensures
 
 pub loop-i-preserved : goal.loop-i-preserved
-loop-i-preserved c = (omega arith, entered_since c.loop-i.invariant.1 c.enter.ensures)
+loop-i-preserved c =
+    fetched_entered c.args.accepted.now.not_refused (omega arith) c.entry-entry.ensures c.place-p.ensures c.capability.ensures.0 c.loop-i.invariant c.place.ensures.stored
 
 pub returns : goal.returns
-returns c = entered_end c.loop-i.invariant.0 c.loop-i-test.false c.requires.n_is c.loop-i.invariant.1
+returns c =
+    let z : c.loop-i.i ≡ size_c c.args.accepted.now.image.bytes.now = omega arith in
+    rw z at c.loop-i.invariant

@@ -1,28 +1,20 @@
--- Answers for `boot::read`. `fine`: no refusal applies. Assumes nothing.
-use mathlib.Core.Path.{sym, ◌∙◌}
-use native.Mathlib.Omega.{arith}
-use Rattle.boot.proofs.Loading.{right, words_right, booted-refused, booted-short, booted-done}
+-- Answers for `boot::read`. Assumes nothing.
+use mathlib.Core.Path.{sym}
+use Rattle.boot.proofs.Loading.{words_right, booted-short, booted-done}
 use Rattle.boot.proofs.read.Goals as goal
-
-pub returns-then-refusal-ne0 : goal.returns-then-refusal-ne0
-returns-then-refusal-ne0 c = booted-refused c.refusal-refusal.ensures (λ z. omega arith)
-
-pub two-requires : goal.two-requires
-two-requires c =
-    let f = right _ (sym c.refusal-refusal.ensures ∙ c.if-refusal-ne0.false) in
-    omega arith
 
 pub returns-then-mem-words : goal.returns-then-mem-words
 returns-then-mem-words c =
-    let fine = sym c.refusal-refusal.ensures ∙ c.if-refusal-ne0.false in
-    booted-short fine (words_right _ fine c.two.ensures c.words-words.ensures) (omega arith)
+    let a = c.in_ok-accepted in
+    let w = rw a.ensures.same at (words_right _ a.accepted.not_refused a.accepted.image.frames_is c.words-words.ensures) in
+    booted-short (sym a.ensures.refusal) w c.if-mem-words.true
 
-pub load-requires : goal.load-requires
-load-requires c =
-    let fine = sym c.refusal-refusal.ensures ∙ c.if-refusal-ne0.false in
-    record { not_refused = fine; words_is = words_right _ fine c.two.ensures c.words-words.ensures; mem_long_enough = c.if-mem-words.false }
+pub load-requires-clause-words_is : goal.load-requires-clause-words_is
+load-requires-clause-words_is c =
+    words_right _ c.in_ok-accepted.accepted.not_refused c.in_ok-accepted.accepted.image.frames_is c.words-words.ensures
 
 pub returns : goal.returns
 returns c =
-    let fine = sym c.refusal-refusal.ensures ∙ c.if-refusal-ne0.false in
-    booted-done fine (words_right _ fine c.two.ensures c.words-words.ensures) c.if-mem-words.false c.load.ensures
+    let a = c.in_ok-accepted in
+    let w = rw a.ensures.same at (words_right _ a.accepted.not_refused a.accepted.image.frames_is c.words-words.ensures) in
+    booted-done (sym a.ensures.refusal) w c.if-mem-words.false (rw a.ensures.same at c.load.ensures)

@@ -1,4 +1,5 @@
 -- Answers for `decide::decide`. Assumes nothing.
+use mathlib.Core.Path.{refl}
 use native.Mathlib.Omega.{arith}
 use Rattle.rules.specs.Turn.{named, decided, conclude}
 use Rattle.decide.specs.Visits.{looks}
@@ -7,7 +8,7 @@ use Rattle.decide.proofs.decide.Goals as goal
 
 pub returns-in-0 : goal.returns-in-0
 unfolding named decided conclude looks
-returns-in-0 c = by_number _ _ _ 0 c.in-0.is c.idle.ensures
+returns-in-0 c = by_number _ _ _ 0 c.in-0.is (record { decision = c.idle.ensures; visits = omega arith })
 
 pub returns-in-1 : goal.returns-in-1
 unfolding named decided looks
@@ -50,4 +51,4 @@ unfolding named decided looks
 returns-in-10 c = by_number _ _ _ 10 c.in-10.is c.look.ensures
 
 pub returns-in_default : goal.returns-in_default
-returns-in_default c = by_no_number _ _ _ (omega arith) c.refused.ensures
+returns-in_default c = by_no_number _ _ _ (omega arith) refl

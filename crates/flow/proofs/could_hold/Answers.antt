@@ -1,33 +1,26 @@
 -- Answers for `flow::could_hold`. Assumes nothing.
 use native.Mathlib.Omega.{arith}
-use Rattle.flow.proofs.Answers.{accepted_of, area_low, area_same, themselves, held-refused, held-short, held-written}
-use Rattle.flow.proofs.Entries.{noted_none}
+use Rattle.std.proofs.lemmas.Result.{err_from_is_err_and}
+use Rattle.image.proofs.Refused.{number-positive}
+use Rattle.flow.proofs.Answers.{held-refused, held-short, held-written}
 use borrow.Author.Rules.{rules}
 use Rattle.flow.proofs.could_hold.Goals as goal
 
-pub returns-then-reason-gt0 : goal.returns-then-reason-gt0
-returns-then-reason-gt0 c = search (rules, held-refused)
+pub returns-in_err-accepted : goal.returns-in_err-accepted
+returns-in_err-accepted c =
+    let p = err_from_is_err_and c.from_residual.result c.from_residual.ensures.1 in
+    rw (p.1, p.2) (held-refused _ c.in_err-accepted.ensures.refusal (number-positive _))
 
-pub count-n-requires : goal.count-n-requires
-count-n-requires c = search (rules, accepted_of)
-
-pub domains-requires : goal.domains-requires
-domains-requires c = search (rules, accepted_of)
-
-pub overflow_mul-domains : goal.overflow_mul-domains
-overflow_mul-domains c = omega (arith, area_low c.domains.result c.count-n.result (omega arith) (omega arith))
-
-pub returns-then-out-domains : goal.returns-then-out-domains
-returns-then-out-domains c = search (rules, held-short)
-
-pub notes-requires : goal.notes-requires
-notes-requires c = record { accepted = search (rules, accepted_of); noted = noted_none _ }
-
-pub reach-requires : goal.reach-requires
-reach-requires c = record { cells_length = search rules; themselves = themselves }
-
-pub hold_all-requires : goal.hold_all-requires
-hold_all-requires c = record { accepted = search (rules, accepted_of); noted = search rules; reach = search rules; n_is = search rules; out_long_enough = search (rules, area_same) }
+pub returns-then-out-d : goal.returns-then-out-d
+returns-then-out-d c =
+    let a = c.in_ok-accepted in
+    let d = rw a.ensures.same at a.accepted.image.domains_is in
+    let n = rw a.ensures.same at a.accepted.image.entries_is in
+    held-short 0 _ _ a.ensures.refusal (omega arith) d n c.if-out-d.true
 
 pub returns : goal.returns
-returns c = search (rules, held-written)
+returns c =
+    let a = c.in_ok-accepted in
+    let d = rw a.ensures.same at a.accepted.image.domains_is in
+    let n = rw a.ensures.same at a.accepted.image.entries_is in
+    held-written 0 _ _ a.ensures.refusal (omega arith) d n c.if-out-d.false (search rules)

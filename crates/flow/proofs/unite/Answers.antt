@@ -1,5 +1,5 @@
 -- Answers for `flow::unite`. Assumes nothing.
-use Rattle.flow.proofs.Rows.{united-past, united_more}
+use Rattle.flow.proofs.Spreading.{united-past, united_more}
 use borrow.Author.Rules.{rules}
 use Rattle.flow.proofs.unite.Goals as goal
 

@@ -1,12 +1,15 @@
 -- Answers for `image::objects`. Assumes nothing.
-use borrow.Author.Tests.{eq-eqb}
 use Rattle.rules.specs.State.{objects}
-use Rattle.image.proofs.Form.{objects_other}
 use Rattle.image.proofs.objects.Goals as goal
 
-pub returns-then-kind-eq-FRAME : goal.returns-then-kind-eq-FRAME
+pub returns-in-Frame : goal.returns-in-Frame
 unfolding objects
-returns-then-kind-eq-FRAME c = rw (eq-eqb _ _ c.if-kind-eq-FRAME.true)
+returns-in-Frame c = rw c.in-Frame.is
 
-pub returns-else-kind-eq-FRAME : goal.returns-else-kind-eq-FRAME
-returns-else-kind-eq-FRAME c = objects_other _ _ c.if-kind-eq-FRAME.false
+pub returns-in-Mailbox : goal.returns-in-Mailbox
+unfolding objects
+returns-in-Mailbox c = rw c.in-Mailbox.is
+
+pub returns-in-Bell : goal.returns-in-Bell
+unfolding objects
+returns-in-Bell c = rw c.in-Bell.is

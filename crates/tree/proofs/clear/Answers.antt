@@ -2,11 +2,20 @@
 use Rattle.tree.proofs.Pruning.{clear_free, clear-root, clear-marked, visits_free, visits-root, visits-marked}
 use Rattle.tree.proofs.clear.Goals as goal
 
-pub returns-then-marks-q-eq0 : goal.returns-then-marks-q-eq0
-returns-then-marks-q-eq0 c = (search visits_free, search clear_free)
+pub returns-then-found-q-eq0-clause-visits : goal.returns-then-found-q-eq0-clause-visits
+returns-then-found-q-eq0-clause-visits c = search visits_free
 
-pub returns-then-q-p : goal.returns-then-q-p
-returns-then-q-p c = (search visits-root, search clear-root)
+pub returns-then-found-q-eq0-clause-stored : goal.returns-then-found-q-eq0-clause-stored
+returns-then-found-q-eq0-clause-stored c = search clear_free
 
-pub returns : goal.returns
-returns c = (search visits-marked, search clear-marked)
+pub returns-then-q-p-clause-visits : goal.returns-then-q-p-clause-visits
+returns-then-q-p-clause-visits c = search visits-root
+
+pub returns-then-q-p-clause-stored : goal.returns-then-q-p-clause-stored
+returns-then-q-p-clause-stored c = search clear-root
+
+pub returns-clause-visits : goal.returns-clause-visits
+returns-clause-visits c = search visits-marked
+
+pub returns-clause-stored : goal.returns-clause-stored
+returns-clause-stored c = search clear-marked

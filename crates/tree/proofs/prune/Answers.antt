@@ -1,12 +1,14 @@
 -- Answers for `tree::prune`. Assumes nothing.
-use borrow.Author.Rules.{rules}
-use Rattle.tree.proofs.Marking.{blank}
+use Rattle.std.proofs.Common.{rules}
 use Rattle.tree.proofs.Counting.{visits-found}
 use Rattle.tree.proofs.Pruning.{pruned_all, visits_all}
 use Rattle.tree.proofs.prune.Goals as goal
 
-pub mark_derived-n-requires : goal.mark_derived-n-requires
-mark_derived-n-requires c = record { enough = search rules; blank = blank; p_in_range = search rules; visits_left = search rules }
+pub returns-clause-within : goal.returns-clause-within
+returns-clause-within c = search (rules, visits_all)
 
-pub returns : goal.returns
-returns c = (search (rules, visits_all), search pruned_all, search visits-found)
+pub returns-clause-stored : goal.returns-clause-stored
+returns-clause-stored c = search pruned_all
+
+pub returns-clause-counted : goal.returns-clause-counted
+returns-clause-counted c = search visits-found

@@ -1,16 +1,21 @@
 -- Answers for `write::entries`. Assumes nothing.
-use borrow.Author.Rules.{rules}
-use Rattle.write.proofs.Entering.{entries-begin, entries-room, entries_more, entries_end}
+use mathlib.Core.Path.{◌∙◌}
+use native.Mathlib.Omega.{arith}
+use Rattle.write.proofs.Entering.{entered_none, entered_same, entry_fits, entered_more, entered_all}
+use Rattle.write.proofs.entries.Goals.{then-c-ne0, else-c-ne0}
 use Rattle.write.proofs.entries.Goals as goal
 
-pub loop-q-init : goal.loop-q-init
-loop-q-init c = (search rules, entries-begin _)
+pub loop-p-init : goal.loop-p-init
+loop-p-init c = entered_none _ _
 
-pub entry_of-at-requires : goal.entry_of-at-requires
-entry_of-at-requires c = record { enough = search rules; p_in_range = search rules; image_long_enough = entries-room _ _ _ c.loop-q-test.true c.requires.image_long_enough c.loop-q.invariant.1 }
-
-pub loop-q-preserved : goal.loop-q-preserved
-loop-q-preserved c = (search rules, entries_more _ _ c.loop-q.invariant.1 c.entry_of-at.ensures)
+pub loop-p-preserved : goal.loop-p-preserved
+loop-p-preserved c =
+    elim c.if-c-ne0.branch [
+      | then-c-ne0 w ↦
+          let fits = entry_fits _ c.see-c.ensures.capability c.loop-p.invariant w.if-c-ne0.true _ c.loop-p-test.true (c.loop-p.auto.bytes ∙ c.requires.bytes_fit) in
+          rw (w.at-is, w.bytes-is) (entered_more _ c.see-c.ensures.capability c.loop-p.invariant w.if-c-ne0.true _ fits (w.copy_from_slice.ensures.after ∙ w.entry.ensures))
+      | else-c-ne0 w ↦ rw (w.at-is, w.bytes-is) (entered_same _ c.see-c.ensures.capability c.loop-p.invariant w.if-c-ne0.false)
+    ]
 
 pub returns : goal.returns
-returns c = entries_end _ _ _ c.loop-q.invariant.0 c.loop-q-test.false c.loop-q.invariant.1
+returns c = entered_all _ _ (omega arith) (omega arith) (c.loop-p.auto.bytes ∙ c.requires.bytes_fit) c.loop-p.invariant

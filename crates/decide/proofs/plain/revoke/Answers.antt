@@ -1,13 +1,12 @@
 -- Answers for `decide::plain::revoke`. Assumes nothing.
-use native.Mathlib.Omega.{arith}
 use Rattle.rules.specs.Turn.{revoke}
-use Rattle.look.proofs.Checks.{checks, is_done, is_refused}
+use Rattle.look.proofs.Checks.{looked_refused, looked_done}
 use Rattle.decide.proofs.plain.revoke.Goals as goal
 
-pub returns-then-k-ne0 : goal.returns-then-k-ne0
+pub returns-in_err-any_slot : goal.returns-in_err-any_slot
 unfolding revoke
-returns-then-k-ne0 c = is_refused _ _ _ c.refused.ensures (search checks) (search checks) (omega arith)
+returns-in_err-any_slot c = looked_refused _ _ c.from_residual.ensures.1 c.in_err-any_slot.ensures
 
 pub returns : goal.returns
 unfolding revoke
-returns c = is_done _ _ _ (search checks) c.done.ensures.0 (omega arith)
+returns c = looked_done _ _ c.in_ok-any_slot.ensures c.done.ensures

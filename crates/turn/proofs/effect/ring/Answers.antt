@@ -5,4 +5,4 @@ use Rattle.turn.proofs.Effects.{applied_ring}
 use Rattle.turn.proofs.effect.ring.Goals as goal
 
 pub returns : goal.returns
-returns c = applied_ring (ap (λ x. bit_or x c.args.badge) c.bell.ensures) c.set_bell.ensures
+returns c = λ v. applied_ring (ap (λ x. bit_or x c.args.badge) c.bell.ensures) c.set_bell.ensures

@@ -1,7 +1,0 @@
--- Answers for `flow::join`. Assumes nothing.
-use Rattle.flow.proofs.Closure.{joined_law}
-use borrow.Author.Rules.{rules}
-use Rattle.flow.proofs.join.Goals as goal
-
-pub returns : goal.returns
-returns c = search (rules, joined_law)

@@ -1,7 +1,0 @@
--- Answers for `flow::notes`. Assumes nothing.
-use Rattle.flow.proofs.Entries.{noted_end}
-use borrow.Author.Rules.{rules}
-use Rattle.flow.proofs.notes.Goals as goal
-
-pub returns : goal.returns
-returns c = search (rules, noted_end)

@@ -1,7 +1,0 @@
--- Answers for `flow::users`. Assumes nothing.
-use Rattle.flow.proofs.Closure.{users_law}
-use borrow.Author.Rules.{rules}
-use Rattle.flow.proofs.users.Goals as goal
-
-pub returns : goal.returns
-returns c = search (rules, users_law)

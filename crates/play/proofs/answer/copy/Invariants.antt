@@ -1,6 +1,0 @@
--- `play::answer::copy`'s loop.
-use Rattle.std.proofs.Common.{◌-◌}
-use Rattle.play.proofs.answer.copy.Given as goal
-
-abbrev pub decreases-loop-i : goal.decreases-loop-i
-decreases-loop-i l = l.word.end - l.i

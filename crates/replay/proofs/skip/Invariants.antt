@@ -1,5 +1,0 @@
--- `replay::skip`'s loop.
-use Rattle.replay.proofs.skip.Given as goal
-
-abbrev pub decreases-loop-left : goal.decreases-loop-left
-decreases-loop-left l = l.left

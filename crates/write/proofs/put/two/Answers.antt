@@ -1,6 +1,0 @@
--- Answers for `write::put::two`. Assumes nothing.
-use Rattle.write.proofs.Laying.{laid_then}
-use Rattle.write.proofs.put.two.Goals as goal
-
-pub returns : goal.returns
-returns c = laid_then c.byte-next.ensures c.byte.ensures
