@@ -329,16 +329,16 @@ impl Cells {
 
 // ---- what a domain could hold
 
-// The cells of an accepted image, and the rows that rule 2 reaches from them: with whom each domain's capabilities may come to be.
-fn holders(accepted: &Accepted) -> (Cells, Rows)
-    ensures noted { Noted accepted.now.image.bytes.now (size_c accepted.now.image.bytes.now) result.0.0 }
-    ensures reach { Reach result.0.0 result.1.0 }
+// The cells of an accepted image, from none, and the rows that rule 2 reaches from them: with whom each domain's capabilities may come to be.
+// The caller lends both, so that the cells stand in memory once.
+fn holders(accepted: &Accepted, cells: &mut Cells, rows: &mut Rows)
+    requires none { Noted accepted.now.image.bytes.now 0 cells.old.0 }
+    requires themselves { Themselves rows.old.0 }
+    ensures noted { Noted accepted.now.image.bytes.now (size_c accepted.now.image.bytes.now) cells.new.0 }
+    ensures reach { Reach cells.new.0 rows.new.0 }
 {
-    let mut cells = Cells([0; CELLS]);
     cells.notes(accepted);
-    let mut rows = Rows::themselves();
-    cells.reach(&mut rows);
-    (cells, rows)
+    cells.reach(rows);
 }
 
 // Whether domain d could hold the triple of entry i.
@@ -366,7 +366,9 @@ pub fn could_hold(image: &[u8], out: &mut [u8]) -> Result<(), Refusal>
     if out.len() < d * n {
         return Err(Refusal::BufferShort);
     }
-    let (cells, rows) = holders(&accepted);
+    let mut cells = Cells([0; CELLS]);
+    let mut rows = Rows::themselves();
+    holders(&accepted, &mut cells, &mut rows);
     fill(
         out,
         d,
@@ -405,7 +407,9 @@ fn weave(accepted: &Accepted, flows: &mut Rows)
     requires { Themselves flows.old.0 }
     ensures { Whole accepted.now.image.bytes.now flows.new.0 }
 {
-    let (cells, rows) = holders(accepted);
+    let mut cells = Cells([0; CELLS]);
+    let mut rows = Rows::themselves();
+    holders(accepted, &mut cells, &mut rows);
     cells.links(&rows, flows);
     derives(accepted, flows);
     flows.close();

@@ -1,6 +1,6 @@
 -- Refusal 26 as the code tests it: an index from places to entries, each source against the entry that defines it, and marks by which a
 -- chain of sources that comes back is found. Assumes nothing.
-use Rattle.std.specs.Prelude.{◌≡◌, Option, None, Some, Bool, true, false, ◌&&◌, ◌||◌, List, ℕ, ◌+◌, ◌*◌, ◌≤◌, ◌<◌, length, get_or}
+use Rattle.std.specs.Prelude.{◌≡◌, Option, None, Some, Bool, true, false, ◌&&◌, ◌||◌, List, ℕ, ◌+◌, ◌*◌, ◌≤◌, ◌<◌, length, get_or, replicate}
 use Rattle.std.specs.List.{list_all, range_with_len}
 use Rattle.rules.specs.Sizes.{all_slots, entries_most}
 use Rattle.rules.specs.State.{Places, slot, nothing, Derived}
@@ -24,6 +24,10 @@ pub record Formed (b : List ℕ) : Type 0 where
   pub whole : Whole b
   pub count : size_c b ≤ entries_most
   pub refusal : refusal_of_form b ≡ 0
+
+-- no number at any place
+abbrev pub unnumbered : List (Option ℕ)
+unnumbered = replicate all_slots None
 
 -- the capability of an entry by its number, counted from 0, if there is one
 unfoldable pub numbered : List ℕ → Option ℕ → Capability

@@ -12,7 +12,7 @@ ghost use Rattle.rules.specs.Kind.{kind_number};
 ghost use Rattle.rules.specs.Refusal.{status_of};
 ghost use Rattle.rules.specs.Image.{byte as byte_at, two as two_at, header_bytes, entry_bytes, size_d, size_t, size_c, size_f, header_last, entries_at, entry_at, place_of, source_of, capability_given, all, right_sizes, right_length, right_turns, right_entry, table_of, rising, fitting, right_source, refusal_of_form, refusal_of};
 ghost use Rattle.image.specs.Said.{said, Fetched, Headed, Whole};
-ghost use Rattle.image.specs.Sources.{entries_of, given_by, Formed, Indexed, Linked, Marked, Climbed, NoReturn, tied, each_entry};
+ghost use Rattle.image.specs.Sources.{entries_of, given_by, Formed, unnumbered, Indexed, Linked, Marked, Climbed, NoReturn, tied, each_entry};
 
 use rules::{
     BELLS, Capability, DOMAINS_MOST, ENTRIES_MOST, FRAMES_MOST, GRANT, Kind, MAILBOXES, READ,
@@ -333,22 +333,23 @@ fn fits(c: Capability, p: Capability) -> bool
         & ((p.badge == 0) | (c.badge == p.badge))
 }
 
-// An image to which no refusal below 26 applies, and for each place the number of the entry for it, if there is one.
+// An image to which no refusal below 26 applies, and for each place the number of the entry for it, if there is one. The caller lends what the
+// numbers stand in, so that they stand in memory once.
 #[derive(Drop)]
 struct Index<'a> {
     image: Image<'a>,
-    numbers: [Option<u16>; ALL_SLOTS],
+    numbers: &'a [Option<u16>; ALL_SLOTS],
     ghost formed: { Formed image.bytes.now },
-    ghost indexed: { Indexed image.bytes.now numbers },
+    ghost indexed: { Indexed image.bytes.now numbers.now },
 }
 
 impl<'a> Index<'a> {
     // The index is filled from the last entry to the first.
-    fn of(image: Image<'a>) -> Index<'a>
-        requires { Formed image.bytes.now }
+    fn of(image: Image<'a>, numbers: &'a mut [Option<u16>; ALL_SLOTS]) -> Index<'a>
+        requires formed { Formed image.bytes.now }
+        requires none { numbers.old ≡ unnumbered }
         ensures { result.image.bytes.now ≡ image.entry.bytes.now }
     {
-        let mut numbers = [None; ALL_SLOTS];
         for i in (0..image.header.entries).rev() {
             numbers[image.place(i)] = Some(i as u16);
         }
@@ -393,7 +394,7 @@ impl<'a> Index<'a> {
     // Follows sources from a place and leaves a mark at each place that it comes to, up to one without a source or with a mark. False where
     // that mark is its own: following sources comes back. Mark 0 is none, so that each mark is below the next climb's.
     fn climb(&self, marks: &mut [u16; ALL_SLOTS], from: usize, mark: u16) -> bool
-        requires linked { Linked self.now.image.bytes.now self.now.numbers }
+        requires linked { Linked self.now.image.bytes.now self.now.numbers.now }
         requires marked { Marked (given_by self.now.image.bytes.now) mark marks.old }
         requires from_in_range { from < all_slots }
         ensures { Climbed (given_by self.now.image.bytes.now) from mark result marks.old marks.new }
@@ -412,7 +413,7 @@ impl<'a> Index<'a> {
 
     // Following sources never comes back to where it began: a climb from the place of each entry, each with a mark of its own.
     fn ends(&self) -> bool
-        requires { Linked self.now.image.bytes.now self.now.numbers }
+        requires { Linked self.now.image.bytes.now self.now.numbers.now }
         ensures { NoReturn (given_by self.now.image.bytes.now) result }
     {
         let mut marks = [0u16; ALL_SLOTS];
@@ -449,7 +450,8 @@ impl<'a> Accepted<'a> {
         ensures same { IfOk result (λ a. a.image.bytes.now ≡ bytes.now) }
     {
         let image = formed(bytes)?;
-        if !Index::of(image).sources_right() {
+        let mut numbers = [None; ALL_SLOTS];
+        if !Index::of(image, &mut numbers).sources_right() {
             return Err(Refusal::ImageSource);
         }
         Ok(Accepted { image })

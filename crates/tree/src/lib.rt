@@ -85,9 +85,12 @@ fn root(p: u32) -> Found
     ensures count { result.count ≡ 1 }
     ensures marks { result.marks ≡ root_mark p }
 {
-    let mut marks = [0; SOURCES];
-    marks[p as usize + 1] = 1;
-    Found { marks, count: 1 }
+    let mut found = Found {
+        marks: [0; SOURCES],
+        count: 1,
+    };
+    found.marks[p as usize + 1] = 1;
+    found
 }
 
 // Marks place p and whatever is derived from it, by sweeps until one makes no mark. Each sweep but the last makes one at least, and p's was

@@ -2,6 +2,7 @@
 use native.Mathlib.Omega.{arith}
 use Rattle.std.proofs.lemmas.Result.{err_from_is_err_and}
 use Rattle.image.proofs.Refused.{number-positive}
+use Rattle.flow.proofs.Entries.{noted_none}
 use Rattle.flow.proofs.Answers.{held-refused, held-short, held-written}
 use borrow.Author.Rules.{rules}
 use Rattle.flow.proofs.could_hold.Goals as goal
@@ -17,6 +18,9 @@ returns-then-out-d c =
     let d = rw a.ensures.same at a.accepted.image.domains_is in
     let n = rw a.ensures.same at a.accepted.image.entries_is in
     held-short 0 _ _ a.ensures.refusal (omega arith) d n c.if-out-d.true
+
+pub holders-requires-clause-none : goal.holders-requires-clause-none
+holders-requires-clause-none c = noted_none _
 
 pub returns : goal.returns
 returns c =

@@ -10,8 +10,8 @@ returns-in_err-image-clause-refusal c =
     let p = err_from_is_err_and c.from_residual.result c.from_residual.ensures.1 in
     rw (p.1, p.2) (refused-before _ _ c.in_err-image.ensures.refusal (refused_some _))
 
-pub of-requires : goal.of-requires
-of-requires c = rw c.in_ok-image.ensures.same (formed_law _ _ c.in_ok-image.ensures.refusal refl)
+pub of-requires-clause-formed : goal.of-requires-clause-formed
+of-requires-clause-formed c = rw c.in_ok-image.ensures.same (formed_law _ _ c.in_ok-image.ensures.refusal refl)
 
 pub returns-then-not-sources_right-clause-refusal : goal.returns-then-not-sources_right-clause-refusal
 returns-then-not-sources_right-clause-refusal c =
