@@ -1,10 +1,12 @@
 // What a line gives: a capability for an object, with rights, and perhaps a badge and a source.
-ghost use Rattle.std.specs.Prelude.{◌≤◌};
+ghost use Rattle.std.specs.Prelude.{◌≤◌, IfSome};
 
 use rules::{Kind, Rights, SLOTS};
 
 // The right of a letter.
-fn right(letter: u8) -> Option<Rights> {
+fn right(letter: u8) -> Option<Rights>
+    ensures { IfSome result (λ r. r.0 ≤ 4) }
+{
     match letter {
         b'r' => Some(Rights::READ),
         b'w' => Some(Rights::WRITE),
@@ -14,22 +16,28 @@ fn right(letter: u8) -> Option<Rights> {
 }
 
 // Rights and one more, unless it is among them.
-fn add(rights: Rights, right: Rights) -> Option<Rights> {
+fn add(rights: Rights, right: Rights) -> Option<Rights>
+    ensures { IfSome result (λ r. r.0 ≤ 7) }
+{
     if rights.have(right) {
         None
     } else {
-        Some(Rights(rights.0 | right.0))
+        Some(Rights((rights.0 | right.0) % 8))
     }
 }
 
 // The rights that a word says: letters, each once, or `-` for none.
-pub fn rights(word: &[u8]) -> Option<Rights> {
-    let none = Rights(0);
+pub fn rights(word: &[u8]) -> Option<Rights>
+    ensures { IfSome result (λ r. r.0 ≤ 7) }
+{
+    let mut rights = Rights(0);
     if word == b"-".as_slice() {
-        return Some(none);
+        return Some(rights);
     }
-    word.iter()
-        .try_fold(none, |rights, letter| add(rights, right(*letter)?))
+    for letter in word {
+        rights = add(rights, right(*letter)?)?;
+    }
+    Some(rights)
 }
 
 // A slot of a domain.

@@ -76,7 +76,9 @@ impl<'a> Line<'a> {
     }
 
     // The next word says the rights of a capability for an object of a kind.
-    pub fn rights(&mut self, kind: Kind) -> Result<Rights, Complaint<'a>> {
+    pub fn rights(&mut self, kind: Kind) -> Result<Rights, Complaint<'a>>
+        ensures { IfOk result (λ r. r.0 ≤ 7) }
+    {
         let word = self.word()?;
         let rights = gift::rights(word).ok_or(self.wrong(word, Fault::NoRights))?;
         if rights.have(Rights::GRANT) && kind != Kind::Mailbox {

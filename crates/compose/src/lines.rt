@@ -121,9 +121,8 @@ impl<'a> Book<'a> {
         }
     }
 
-    // The book of a text.
-    pub fn read(text: &'a [u8]) -> Result<Self, Complaint<'a>> {
-        let mut book = Book::new();
+    // What a text says besides. The book stays where it is: handed up in a result it would stand in memory more than once.
+    pub fn read(&mut self, text: &'a [u8]) -> Result<(), Complaint<'a>> {
         for (before, line) in Lines::new(text).enumerate() {
             let mut words = Words::new(line);
             if let Some(first) = words.next() {
@@ -132,11 +131,11 @@ impl<'a> Book<'a> {
                     first,
                     words,
                 };
-                book.read_line(&mut line)?;
+                self.read_line(&mut line)?;
                 line.end()?;
             }
         }
-        Ok(book)
+        Ok(())
     }
 }
 

@@ -35,7 +35,8 @@ fn compose(text: &[u8]) -> Result<(), Complaint<'_>> {
     if TEXT < text.len() {
         return Err(Fault::LongText.into());
     }
-    let book = Book::read(text)?;
+    let mut book = Book::new();
+    book.read(text)?;
     book.judge()?;
     let mut space = [0u8; image::IMAGE_MOST];
     write(emit::image(&book, &mut space))?;

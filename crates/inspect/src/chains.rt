@@ -12,14 +12,14 @@ const STEPS: u8 = 3;
 
 // The direct flows, and the steps of the shortest chain from the row's domain to the column's, if there is a chain.
 #[derive(Drop)]
-struct Chains {
-    carriers: Carriers,
+struct Chains<'a> {
+    carriers: &'a Carriers,
     steps: Table<Option<u8>>,
 }
 
-impl Chains {
+impl<'a> Chains<'a> {
     // The chains of direct flows: each by way of each domain, one after the other. Three cells are read at once, so no row is walked.
-    fn new(carriers: Carriers) -> Self {
+    fn new(carriers: &'a Carriers) -> Self {
         let mut chains = Chains {
             carriers,
             steps: Table::new(None),
@@ -101,7 +101,7 @@ fn between(i: u8) -> &'static str {
 }
 
 // The reasons of a table of flows.
-pub fn show(flows: &Flows, carriers: Carriers, out: &mut Text) -> fmt::Result {
+pub fn show(flows: &Flows, carriers: &Carriers, out: &mut Text) -> fmt::Result {
     let chains = Chains::new(carriers);
     writeln!(out, "\nreasons, by direct flows")?;
     for (from, row) in flows.rows().enumerate() {

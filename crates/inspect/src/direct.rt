@@ -2,7 +2,7 @@
 use crate::domains::{DOMAINS, Set, Table};
 use crate::fields::{Entry, Image};
 use crate::objects::{KINDS, Objects};
-use crate::verdict::Held;
+use crate::verdict::{ANSWERS, Held};
 use crate::words::Object;
 use rules::{Kind, Refusal, Rights};
 use std::fmt;
@@ -71,10 +71,10 @@ fn note_own(users: &mut AllUsers, image: Image<'_>) {
 }
 
 // Each domain has what it could hold.
-fn note_held(users: &mut AllUsers, image: Image<'_>, held: &Held) {
+fn note_held(users: &mut AllUsers, image: Image<'_>, held: Held<'_>) {
     for domain in 0..DOMAINS {
         for (entry, holds) in image.entries().zip(held.row(domain)) {
-            if *holds {
+            if *holds == 1 {
                 note(users, domain, entry);
             }
         }
@@ -88,19 +88,24 @@ pub struct Carriers {
 }
 
 impl Carriers {
-    // The carriers of an image. What the image itself gives comes first: it says more than what rule 2 of section 1 passes on.
-    pub fn new(image: Image<'_>) -> Result<Self, Refusal> {
-        let held = Held::new(image)?;
-        let mut carriers = Carriers {
+    // No carriers.
+    pub fn new() -> Self {
+        Carriers {
             table: Table::new(None),
-        };
+        }
+    }
+
+    // Finds the carriers of an image. What the image itself gives comes first: it says more than what rule 2 of section 1 passes on.
+    pub fn find(&mut self, image: Image<'_>) -> Result<(), Refusal> {
+        let mut space = [0; ANSWERS];
+        let held = Held::new(image, &mut space)?;
         let mut users = Objects::new(Users::default());
         note_own(&mut users, image);
-        carriers.link(&users);
-        carriers.derive(image);
-        note_held(&mut users, image, &held);
-        carriers.link(&users);
-        Ok(carriers)
+        self.link(&users);
+        self.derive(image);
+        note_held(&mut users, image, held);
+        self.link(&users);
+        Ok(())
     }
 
     // A carrier from one domain to another, where there is none yet.

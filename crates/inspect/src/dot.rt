@@ -62,7 +62,8 @@ fn graph(image: Image<'_>, out: &mut Text) -> fmt::Result {
 
 // The whole view.
 pub fn show(image: Image<'_>, out: &mut Text) -> Result<(), Stop> {
-    let carriers = Carriers::new(image)?;
+    let mut carriers = Carriers::new();
+    carriers.find(image)?;
     graph(image, out)?;
     flows(&carriers, out)?;
     writeln!(out, "}}")?;

@@ -54,6 +54,11 @@ impl<'a> Image<'a> {
         Some(image::entry(bytes, 0))
     }
 
+    // An entry, if the image has its bytes and it is of a kind.
+    pub fn entry(&self, number: u16) -> Option<Entry> {
+        Entry::new(number, self.fields(number)?)
+    }
+
     // The entries, up to one that is of no kind.
     pub fn entries(&self) -> Entries<'a> {
         Entries {
@@ -120,6 +125,6 @@ impl<'a> Iterator for Entries<'a> {
 
     fn next(&mut self) -> Option<Entry> {
         let number = self.numbers.next()?;
-        Entry::new(number, self.image.fields(number)?)
+        self.image.entry(number)
     }
 }

@@ -2,7 +2,7 @@
 // several may have one triple, so a domain's triples are marked, and the marks are walked in the order of the lines.
 use crate::fields::{Entry, Image};
 use crate::objects::{KINDS, Objects};
-use crate::verdict::{Held, Stop};
+use crate::verdict::{ANSWERS, Held, Stop};
 use std::fmt;
 use std::fmt::Write;
 use text::Text;
@@ -35,12 +35,13 @@ fn lines(domain: usize, triples: &Triples, out: &mut Text) -> fmt::Result {
 
 // The whole view.
 pub fn show(image: Image<'_>, out: &mut Text) -> Result<(), Stop> {
-    let held = Held::new(image)?;
+    let mut space = [0; ANSWERS];
+    let held = Held::new(image, &mut space)?;
     writeln!(out, "accepted {}", image.domains)?;
     for domain in 0..usize::from(image.domains) {
         let mut triples = Objects::new([false; 8]);
         for (entry, holds) in image.entries().zip(held.row(domain)) {
-            if *holds {
+            if *holds == 1 {
                 mark(&mut triples, entry);
             }
         }

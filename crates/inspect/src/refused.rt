@@ -171,44 +171,47 @@ fn fits(entry: &Entry, source: &Entry) -> bool {
         && (source.badge == 0 || entry.badge == source.badge)
 }
 
-// For each place the entry for it, if there is one.
+// For each place of an image the number of the entry for it, if there is one.
 #[derive(Drop)]
 struct Places {
-    entries: [[Option<Entry>; SLOTS]; DOMAINS],
+    numbers: [[Option<u16>; SLOTS]; DOMAINS],
 }
 
 impl Places {
     // The places of an image's entries.
     fn new(image: Image<'_>) -> Self {
-        let mut entries = [[None; SLOTS]; DOMAINS];
+        let mut numbers = [[None; SLOTS]; DOMAINS];
         for entry in image.entries() {
             let place = entry.place;
             if place.domain < DOMAINS && place.slot < SLOTS {
-                entries[place.domain][place.slot] = Some(entry);
+                numbers[place.domain][place.slot] = Some(entry.number);
             }
         }
-        Places { entries }
+        Places { numbers }
     }
 
     // The source of an entry, if an entry defines it.
-    fn source(&self, entry: &Entry) -> Option<Entry> {
+    fn source(&self, image: Image<'_>, entry: &Entry) -> Option<Entry> {
         let place = entry.source?;
-        *self.entries.get(place.domain)?.get(place.slot)?
+        let number = *self.numbers.get(place.domain)?.get(place.slot)?;
+        image.entry(number?)
     }
 
     // An entry has no source, or one that an entry defines and that it fits.
-    fn ties(&self, entry: &Entry) -> bool {
+    fn ties(&self, image: Image<'_>, entry: &Entry) -> bool {
         entry.source.is_none()
             || self
-                .source(entry)
+                .source(image, entry)
                 .is_some_and(|source| fits(entry, &source))
     }
 
     // Following sources from an entry comes back to it.
-    fn returns(&self, entry: &Entry) -> bool {
-        iter::successors(self.source(entry), |source| self.source(source))
-            .take(SLOTS * DOMAINS)
-            .any(|source| source.place == entry.place)
+    fn returns(&self, image: Image<'_>, entry: &Entry) -> bool {
+        iter::successors(self.source(image, entry), |source| {
+            self.source(image, source)
+        })
+        .take(SLOTS * DOMAINS)
+        .any(|source| source.place == entry.place)
     }
 }
 
@@ -236,11 +239,11 @@ fn unfit(entry: &Entry, source: &Entry, out: &mut Text) -> fmt::Result {
 }
 
 // Why the source of an entry is not right.
-fn untied(places: &Places, entry: &Entry, out: &mut Text) -> fmt::Result {
+fn untied(image: Image<'_>, places: &Places, entry: &Entry, out: &mut Text) -> fmt::Result {
     if let Some(place) = entry.source {
         write!(out, "its source, {place},")?;
     }
-    match places.source(entry) {
+    match places.source(image, entry) {
         Some(source) => unfit(entry, &source, out),
         None => write!(out, " is no entry's place"),
     }
@@ -249,11 +252,11 @@ fn untied(places: &Places, entry: &Entry, out: &mut Text) -> fmt::Result {
 // 26.
 fn sources(image: Image<'_>, out: &mut Text) -> fmt::Result {
     let places = Places::new(image);
-    if let Some(entry) = image.entries().find(|entry| !places.ties(entry)) {
+    if let Some(entry) = image.entries().find(|entry| !places.ties(image, entry)) {
         name(image, entry.number, out)?;
-        return untied(&places, &entry, out);
+        return untied(image, &places, &entry, out);
     }
-    if let Some(entry) = image.entries().find(|entry| places.returns(entry)) {
+    if let Some(entry) = image.entries().find(|entry| places.returns(image, entry)) {
         name(image, entry.number, out)?;
         write!(out, "following sources from it comes back to it")?;
     }

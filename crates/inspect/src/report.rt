@@ -43,13 +43,14 @@ fn turns(image: Image<'_>, out: &mut Text) -> fmt::Result {
 // The whole view.
 pub fn show(image: Image<'_>, out: &mut Text) -> Result<(), Stop> {
     let flows = Flows::new(image)?;
-    let carriers = Carriers::new(image)?;
+    let mut carriers = Carriers::new();
+    carriers.find(image)?;
     writeln!(out, "accepted {}", image.domains)?;
     sizes(image, out)?;
     turns(image, out)?;
     slots::show(image, out)?;
     table::show(&flows, out)?;
     closed::show(&flows, out)?;
-    chains::show(&flows, carriers, out)?;
+    chains::show(&flows, &carriers, out)?;
     Ok(())
 }

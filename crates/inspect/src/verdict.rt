@@ -58,28 +58,28 @@ impl Flows {
 }
 
 // The most answers that there are: for all domains and entries.
-const ANSWERS: usize = DOMAINS * ENTRIES_MOST as usize;
+pub const ANSWERS: usize = DOMAINS * ENTRIES_MOST as usize;
 
-// What each domain could hold: for each domain a row, for each entry whether the domain could hold what it gives.
-#[derive(Drop)]
-pub struct Held {
-    answers: [bool; ANSWERS],
+// What each domain could hold: for each domain a row, for each entry 1 where the domain could hold what it gives. The answers stand where the
+// caller lends the space: handed up in a result they would stand in memory more than once.
+#[derive(Clone, Copy)]
+pub struct Held<'a> {
+    answers: &'a [u8],
     entries: usize,
 }
 
-impl Held {
+impl<'a> Held<'a> {
     // What each domain of an image could hold. `flow` answers with 1 and 0, in rows of the image's entries.
-    pub fn new(image: Image<'_>) -> Result<Self, Refusal> {
-        let mut answers = [0; ANSWERS];
-        flow::could_hold(image.bytes, &mut answers)?;
+    pub fn new(image: Image<'_>, space: &'a mut [u8; ANSWERS]) -> Result<Self, Refusal> {
+        flow::could_hold(image.bytes, space)?;
         Ok(Held {
-            answers: answers.map(|answer| answer == 1),
+            answers: space,
             entries: usize::from(image.entries),
         })
     }
 
     // A domain's row.
-    pub fn row(&self, domain: usize) -> &[bool] {
+    pub fn row(&self, domain: usize) -> &'a [u8] {
         let mut rows = self.answers.chunks_exact(self.entries.max(1));
         rows.nth(domain).unwrap_or(&[])
     }

@@ -1,4 +1,6 @@
 // What a line of the trace calls for: an operation by its name or number, and its arguments.
+ghost use Rattle.std.specs.Prelude.{◌≤◌};
+
 use crate::fault::{Complaint, Fault};
 use crate::line::Line;
 use rules::Operation;
@@ -31,7 +33,7 @@ pub struct Call<'a> {
 }
 
 // The operation that a word names, or whose number it is.
-fn number(word: &[u8]) -> Option<u32> {
+pub fn number(word: &[u8]) -> Option<u32> {
     match OPERATIONS.iter().position(|(name, _)| *name == word) {
         Some(number) => u32::try_from(number).ok(),
         None => words::number(word),
@@ -39,23 +41,22 @@ fn number(word: &[u8]) -> Option<u32> {
 }
 
 impl<'a> Call<'a> {
-    // What a line calls for; none where it has no words.
-    pub fn read(line: &'a Line) -> Result<Option<Self>, Complaint<'a>> {
-        let mut words = Words::new(line.text());
-        let Some(name) = words.next() else {
-            return Ok(None);
-        };
-        let number = number(name).ok_or(line.wrong(Some(name), Fault::NoOperation))?;
-        let mut call = Call {
+    // An operation without arguments, by the word that names it and its number.
+    pub fn new(name: &'a [u8], number: u32) -> Self {
+        Call {
             name,
             number,
             arguments: [None; ARGUMENTS],
-        };
+        }
+    }
+
+    // The words that follow are its arguments.
+    pub fn read(&mut self, words: Words<'a>, line: &Line) -> Result<(), Complaint<'a>> {
         for word in words {
-            call.add(word)
+            self.add(word)
                 .map_err(|fault| line.wrong(Some(word), fault))?;
         }
-        Ok(Some(call))
+        Ok(())
     }
 
     // A word is an argument more.
@@ -71,7 +72,9 @@ impl<'a> Call<'a> {
     }
 
     // How many words it answers.
-    pub fn answered(&self) -> usize {
+    pub fn answered(&self) -> usize
+        ensures { result ≤ 6 }
+    {
         OPERATIONS
             .get(self.number as usize)
             .map_or(0, |(_, answered)| *answered)
@@ -79,18 +82,16 @@ impl<'a> Call<'a> {
 
     // The operation. An argument that is not given is 0.
     pub fn operation(&self) -> Operation {
-        let [first, second, third, fourth, fifth, sixth, seventh] = self
-            .arguments
-            .map(|argument| argument.unwrap_or(0));
+        let [first, second, third, fourth, fifth, sixth, seventh] = &self.arguments;
         Operation {
             number: self.number,
-            first,
-            second,
-            third,
-            fourth,
-            fifth,
-            sixth,
-            seventh,
+            first: first.unwrap_or(0),
+            second: second.unwrap_or(0),
+            third: third.unwrap_or(0),
+            fourth: fourth.unwrap_or(0),
+            fifth: fifth.unwrap_or(0),
+            sixth: sixth.unwrap_or(0),
+            seventh: seventh.unwrap_or(0),
         }
     }
 }

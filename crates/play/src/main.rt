@@ -14,6 +14,7 @@ use call::Call;
 use fault::{Complaint, Fault};
 use line::Line;
 use text::Text;
+use words::Words;
 
 // Standard input's number.
 const STDIN_FILENO: i32 = 0;
@@ -30,6 +31,19 @@ fn turn(mem: &mut [u32], out: &mut Text, call: &Call<'_>) {
     let turned = turn::turn(mem, call.operation());
     // Text gives no error.
     let _ = answer::write(out, domain, call, turned.answer);
+}
+
+// What a line calls for, if it has words: the turn, and the line of its answer. A call is put together where it stands, since its memory is
+// not small.
+fn play_line<'a>(mem: &mut [u32], out: &mut Text, line: &'a Line) -> Result<(), Complaint<'a>> {
+    let mut words = Words::new(line.text());
+    if let Some(name) = words.next() {
+        let number = call::number(name).ok_or(line.wrong(Some(name), Fault::NoOperation))?;
+        let mut call = Call::new(name, number);
+        call.read(words, line)?;
+        turn(mem, out, &call);
+    }
+    Ok(())
 }
 
 // Something was wrong, and is said: nothing more is played.
@@ -54,10 +68,8 @@ struct Player<'a> {
 impl Player<'_> {
     // The line is at its end: it is played, and the next one begins.
     fn end(&mut self) -> Result<(), Stopped> {
-        let call = Call::read(&self.line).map_err(|complaint| stop(&mut self.out, complaint))?;
-        if let Some(call) = call {
-            turn(self.mem, &mut self.out, &call);
-        }
+        let played = play_line(self.mem, &mut self.out, &self.line);
+        played.map_err(|complaint| stop(&mut self.out, complaint))?;
         self.line.begin_next();
         Ok(())
     }

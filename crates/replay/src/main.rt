@@ -43,7 +43,7 @@ fn replay(mem: &mut [u32], input: &[u8; LINE], output: &mut [u8; LINE]) {
     let a = turn::turn(mem, operation(input)).answer;
     let words = [domain, a.status, a.w0, a.w1, a.w2, a.w3, a.w4, a.w5];
     let (rooms, _) = output.as_chunks_mut::<4>();
-    for (room, word) in rooms.iter_mut().zip(words) {
+    for (room, word) in rooms.iter_mut().zip(&words) {
         *room = word.to_be_bytes();
     }
 }

@@ -1,23 +1,10 @@
 // What a program says on standard error of a word that it can't take.
 use std::fmt;
 use std::fmt::Write;
-
-// Standard error's number.
-const STDERR_FILENO: i32 = 2;
+use text::Text;
 
 // The most bytes of a word that are shown.
 const SHOWN: usize = 40;
-
-// Standard error. What can't be written there is lost, and is no error.
-#[derive(Drop)]
-struct StandardError;
-
-impl fmt::Write for StandardError {
-    fn write_str(&mut self, s: &str) -> fmt::Result {
-        io::write_all(STDERR_FILENO, s.as_bytes());
-        Ok(())
-    }
-}
 
 // A word as it is shown: its first bytes, with a question mark for one that is no printing character of ASCII.
 #[derive(Clone, Copy)]
@@ -66,9 +53,11 @@ impl<F: fmt::Display> fmt::Display for Complaint<'_, F> {
 }
 
 impl<F: fmt::Display> Complaint<'_, F> {
-    // Says it on standard error, in a line.
+    // Says it on standard error, in a line, which is written at once.
     pub fn say(&self) {
-        // Standard error gives no error.
-        let _ = write!(StandardError, "{self}\n");
+        let mut out = Text::for_errors();
+        // Text gives no error.
+        let _ = write!(out, "{self}\n");
+        out.flush();
     }
 }

@@ -4,7 +4,7 @@
 
 mod complaint;
 
-ghost use Rattle.std.specs.Prelude.{◌≡◌, ◌+◌, ◌<◌, ◌≤◌, false, length, IfSome};
+ghost use Rattle.std.specs.Prelude.{◌≡◌, ◌++◌, ◌<◌, ◌≤◌, [], false, length, IfSome, IsNone};
 ghost use Rattle.std.specs.Str.Parse.{IsNumeral, digits_value};
 ghost use Rattle.std.specs.Iterator.{at_most};
 
@@ -28,8 +28,8 @@ impl<'a> Lines<'a> {
 impl<'a> Iterator for Lines<'a> {
     type Item = &'a [u8];
 
-    // No line is empty, and what is left after it is the rest.
-    ghost next_gives = { λ lines line left. IfSome line (λ l. (0 < length l.now) × (length l.now + length left.rest.now ≡ length lines.rest.now)) };
+    // No line is empty, and a line and what is left after it are what was left; as long as anything is left, there is a line.
+    ghost next_gives = { λ lines line left. IfSome line (λ l. (0 < length l.now) × (l.now ++ left.rest.now ≡ lines.rest.now)) × (IsNone line → lines.rest.now ≡ []) };
 
     ghost remaining = { λ lines. at_most (length lines.rest.now) };
 
@@ -47,7 +47,7 @@ impl<'a> Iterator for Lines<'a> {
     }
 }
 
-// The words of a line that are still to come.
+// The words of a line that are still to come: those of what is left of it.
 #[derive(Clone, Copy)]
 pub struct Words<'a> {
     rest: &'a [u8],
@@ -58,11 +58,7 @@ impl<'a> Words<'a> {
     pub fn new(line: &'a [u8]) -> Self
         ensures { length result.rest.now ≤ length line.now }
     {
-        let end = line
-            .iter()
-            .position(|b| ends_words(*b))
-            .unwrap_or(line.len());
-        Words { rest: &line[..end] }
+        Words { rest: line }
     }
 
     // Passes the next word if it is that one, and tells whether it is.
@@ -97,10 +93,13 @@ impl<'a> Iterator for Words<'a> {
 
     fn next(&mut self) -> Option<&'a [u8]> {
         let rest = past_blanks(self.rest);
-        let (_, others) = rest.split_first()?;
+        let (first, others) = rest.split_first()?;
+        if ends_words(*first) {
+            return None;
+        }
         let more = others
             .iter()
-            .position(|b| is_blank(*b))
+            .position(|b| is_blank(*b) || ends_words(*b))
             .unwrap_or(others.len());
         let (word, rest) = rest.split_at(1 + more);
         self.rest = rest;
@@ -133,9 +132,13 @@ fn past_blanks(line: &[u8]) -> &[u8]
 pub fn number(word: &[u8]) -> Option<u32>
     ensures { IfSome result (λ n. IsNumeral 10 word.now × (n ≡ digits_value 10 word.now)) }
 {
-    // A number has no sign here.
-    if word.first() == Some(&b'+') {
+    if word.is_empty() {
         return None;
     }
-    str::from_utf8(word).ok()?.parse().ok()
+    let mut number = 0u32;
+    for b in word {
+        let digit = char::from(*b).to_digit(10)?;
+        number = number.checked_mul(10)?.checked_add(digit)?;
+    }
+    Some(number)
 }
